@@ -1,0 +1,7 @@
+mod Bodies
+mod Counting
+mod Filling
+mod Law
+mod Reading
+mod Standing
+mod Steps
