@@ -1,5 +1,7 @@
 -- The number and the layer of each ground for refusing.
 use Prim.Native.Nat.{ℕ}
+use Rattle.std.specs.declared.option.Option.{Option}
+use Rattle.std.specs.declared.option.Option.the-variants.{Some, None}
 use Rattle.std.specs.declared.result.Result.{Result}
 use Rattle.std.specs.declared.result.Result.the-variants.{Ok, Err}
 use Rattle.refusals.specs.declared.Fault.{Fault}
@@ -61,3 +63,21 @@ andThen (Err e) next = Err e
 abbrev pub mapOk : {T U E : Type 0} → (T → U) → Result T E → Result U E
 mapOk f (Ok x) = Ok (f x)
 mapOk f (Err e) = Err e
+
+-- how long the conflict of a clash is; other grounds have none
+abbrev pub clashCount : Refusal → Option ℕ
+clashCount Torn = None
+clashCount Disordered = None
+clashCount WrongLength = None
+clashCount TooMany = None
+clashCount NoSuchVariable = None
+clashCount LimitOutOfRange = None
+clashCount StageForbids = None
+clashCount NoSuchAtom = None
+clashCount AtomTwice = None
+clashCount QuestionFull = None
+clashCount AtomSet = None
+clashCount ConflictListShort = None
+clashCount MoreThanSet = None
+clashCount WorldListShort = None
+clashCount (Clash count) = Some count

@@ -1,10 +1,12 @@
 -- Which entries a table takes, in the order in which the grounds are looked at.
 use mathlib.Core.Bool.{Bool, true, cond, _&&_}
-use mathlib.Core.Path.{_≡_}
+use mathlib.Core.List.{List, [], _∷_}
 use Prim.Native.Nat.{ℕ, _<_}
-use lib.Dec.{ltb}
+use lib.Dec.{leb, ltb}
 use lib.IntN.{ℤ, pos, negsuc}
+use lib.ListN.{length}
 use lib.Signed.{leZ, _≤ℤ_}
+use Rattle.std.specs.Results.{isOk}
 use Rattle.std.specs.declared.result.Result.{Result}
 use Rattle.std.specs.declared.result.Result.the-variants.{Ok, Err}
 use Rattle.refusals.specs.Grounds.{andThen}
@@ -44,3 +46,18 @@ pub record DifferenceFits (variables : ℕ) (e : DifferenceEntry) : Type 0 where
 pub record EqualityFits (variables : ℕ) (e : EqualityEntry) : Type 0 where
   pub a-below : e .a < variables
   pub b-below : e .b < variables
+
+-- whether a table over so many variables takes every entry
+abbrev pub allFit : {E : Type 0} → (E → Bool) → List E → Bool
+allFit fits [] = true
+allFit fits (e ∷ es) = fits e && allFit fits es
+
+-- whether a table is taken: not too many variables, not too many entries, and each entry fits
+abbrev pub tableFits : {E : Type 0} → (ℕ → E → Bool) → ℕ → List E → Bool
+tableFits fits variables table = leb variables most && (leb (length table) most && allFit (fits variables) table)
+
+abbrev pub differenceFits : ℕ → DifferenceEntry → Bool
+differenceFits variables e = isOk (differenceCheck variables e)
+
+abbrev pub equalityFits : ℕ → EqualityEntry → Bool
+equalityFits variables e = isOk (equalityCheck variables e)

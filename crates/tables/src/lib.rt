@@ -1,6 +1,8 @@
 // The entries of a question's two tables, and which entries a table takes.
+ghost use Prim.Native.Nat.{ℕ};
+ghost use mathlib.Core.Bool.{Bool};
 ghost use mathlib.Core.Path.{_≡_};
-ghost use Rattle.tables.specs.Entries.{variablesCheck, differenceCheck, equalityCheck};
+ghost use Rattle.tables.specs.Entries.{variablesCheck, differenceCheck, equalityCheck, differenceFits, equalityFits, tableFits};
 use refusals::Refusal;
 
 // The most variables that a question has, and the most atoms.
@@ -55,4 +57,43 @@ fn check_variables(a: u16, b: u16, variables: usize) -> Result<(), Refusal>
         return Err(Refusal::NoSuchVariable);
     }
     Ok(())
+}
+
+// An entry of a table, which fits a count of variables or does not.
+pub trait Entry {
+    ghost fitted: { ℕ → Self → Bool };
+
+    fn fits(&self, variables: usize) -> bool
+        ensures { λ r. ⌜ r ≡ fitted variables (now (self .entry)) ⌝ };
+}
+
+pub impl Entry for DifferenceEntry as DifferenceEntryEntry {
+    ghost fitted = { differenceFits };
+
+    fn fits(&self, variables: usize) -> bool {
+        self.check(variables).is_ok()
+    }
+}
+
+pub impl Entry for EqualityEntry as EqualityEntryEntry {
+    ghost fitted = { equalityFits };
+
+    fn fits(&self, variables: usize) -> bool {
+        self.check(variables).is_ok()
+    }
+}
+
+// Whether a table over so many variables is taken: not too many variables or entries, and each entry fits.
+pub fn table_fits<E: Entry>(variables: usize, table: &[E]) -> bool
+    ensures { λ r. ⌜ r ≡ tableFits (E·Entry .fitted) variables (now (table .entry)) ⌝ }
+{
+    if variables > MOST || table.len() > MOST {
+        return false;
+    }
+    for entry in table {
+        if !entry.fits(variables) {
+            return false;
+        }
+    }
+    true
 }

@@ -1,0 +1,2 @@
+mod Sound
+mod Values

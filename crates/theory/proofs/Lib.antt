@@ -1,0 +1,6 @@
+pub mod Apart
+pub mod Conflicts
+pub mod Drawn
+pub mod Grounds
+pub mod Retreats
+pub mod Stacks
