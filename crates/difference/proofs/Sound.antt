@@ -1,28 +1,27 @@
 -- The limits of a table and of its set literals: they fit, they say what the literals mean, and they stay settled.
-use mathlib.Core.Bool.{Bool, true, false, not, cond, _&&_}
-use mathlib.Core.List.{List, [], _∷_, _++_, map}
-use mathlib.Core.Path.{_≡_, refl, sym, ap, subst, _∙_}
-use Prim.Native.Nat.{ℕ, zero, suc, _+_, _*_, _-_, _/_, _%_, _<_, _≤_}
+use mathlib.Core.Bool.{true, false, not, cond, _&&_}
+use mathlib.Core.List.{List, [], _∷_, _++_}
+use mathlib.Core.Path.{_≡_, refl, sym, ap, _∙_}
+use Prim.Native.Nat.{ℕ, zero, suc, _+_, _*_, _-_, _%_, _<_, _≤_}
 use native.Mathlib.Omega.{arith}
 use lib.Dec.{eqb, leb, ltb}
 use lib.IntN.{ℤ, pos, negsuc, negℤ, _-ℤ_}
-use lib.ListN.{length, getD, take}
+use lib.ListN.{length, take}
 use lib.Signed.{leZ, _≤ℤ_}
 use Rattle.std.specs.shelf.Lists.{All}
-use Rattle.std.specs.Results.{isOk}
 use Rattle.std.proofs.shelf.Elements.{all-push, all-take, all-weaker}
 use Rattle.std.proofs.shelf.Lists.{take-map, length-map}
 use Rattle.std.proofs.shelf.Signed.{ints}
-use Rattle.std.proofs.shelf.Tests.{and-parts, ltb-true, leb-true, eq-eqb, ne-eqb, cond-both}
+use Rattle.std.proofs.shelf.Tests.{and-parts, leb-true, eq-eqb, ne-eqb, cond-both}
 use Rattle.std.proofs.shelf.Ways.{tells}
 use Rattle.tables.specs.declared.DifferenceEntry.{DifferenceEntry}
-use Rattle.tables.specs.Entries.{most, differenceFits, tableFits, allFit, differenceCheck}
+use Rattle.tables.specs.Entries.{most, differenceFits, tableFits, allFit}
 use Rattle.relaxing.specs.declared.Limit.{Limit}
-use Rattle.relaxing.specs.Limits.{at, Met, Fits, Latest, NoTimes, moves, latest}
+use Rattle.relaxing.specs.Limits.{at, Met, Fits, NoTimes, moves, latest}
 use Rattle.relaxing.proofs.Finding.{latest-from-met, latest-when-still, length-latest}
 use Rattle.relaxing.proofs.Passes.{met-still}
 use Rattle.theory.specs.Calls.{retreated}
-use Rattle.theory.specs.Meaning.{Meaning, Lawful, WorldOf, AllHold, NoWorld, atomOf, names, different}
+use Rattle.theory.specs.Meaning.{Lawful, WorldOf, AllHold, NoWorld, atomOf, names, different}
 use Rattle.theory.proofs.Apart.{different-push, different-take, different-few, different-below}
 use Rattle.theory.proofs.Drawn.{all-codes, all-records, drawn-push, drawn-take}
 use Rattle.theory.proofs.Drawn as drawn

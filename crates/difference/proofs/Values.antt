@@ -1,26 +1,24 @@
 -- What every value of the theory holds, by its ghost fields, and what a `set` makes of it.
-use mathlib.Core.Bool.{Bool, true, false, cond}
-use mathlib.Core.List.{List, [], _∷_, _++_, map}
+use mathlib.Core.Bool.{Bool, true, false}
+use mathlib.Core.List.{List, [], _∷_, _++_}
 use mathlib.Core.Path.{_≡_, refl, sym, ap, subst, _∙_}
-use Prim.Native.Nat.{ℕ, _+_, _-_, _/_, _<_, _≤_}
+use Prim.Native.Nat.{ℕ, _+_, _/_, _<_, _≤_}
 use native.Mathlib.Omega.{arith}
-use lib.Dec.{ltb}
 use lib.IntN.{ℤ}
-use lib.ListN.{length, take, drop, getD}
-use Rattle.std.proofs.shelf.Lists.{getD-read, length-map, length-push, take-at}
-use Rattle.std.proofs.shelf.Tests.{le-ltb}
-use Rattle.std.specs.Of.Vec.{vec-items, vec-len, vec-cap}
+use lib.ListN.{length, drop, getD}
+use Rattle.std.proofs.shelf.Lists.{getD-read, length-map}
+use Rattle.std.specs.Of.Vec.{vec-items, vec-len}
 use Rattle.std.specs.declared.option.Option.the-variants.{None}
 use Rattle.std.specs.declared.result.Result.{Result}
 use Rattle.std.specs.declared.result.Result.the-variants.{Ok}
 use Rattle.refusals.specs.declared.Refusal.{Refusal}
 use Rattle.tables.specs.declared.DifferenceEntry.{DifferenceEntry}
 use Rattle.relaxing.specs.declared.Limit.{Limit}
-use Rattle.relaxing.specs.Limits.{Met, Latest, NoTimes, moves, latest}
+use Rattle.relaxing.specs.Limits.{Met, Latest, NoTimes, pass, latest}
 use Rattle.relaxing.proofs.Finding.{latest-when-still, length-latest}
 use Rattle.std.specs.Orderings.{When}
 use Rattle.std.specs.shelf.Lists.{All}
-use Rattle.theory.specs.Calls.{setGround, groundAnswer, retreated, Picked, none, keep, skip, Gained, Clashed, Conflict}
+use Rattle.theory.specs.Calls.{setGround, groundAnswer, Gained, Clashed}
 use Rattle.theory.specs.Meaning.{atomOf, names, different}
 use Rattle.theory.proofs.Apart.{different-room}
 use Rattle.theory.proofs.Conflicts.{set-clashed}
@@ -103,7 +101,7 @@ module _ (t : Difference) (code : ℕ) (list : List ℕ) (p : Passed t code (len
 
 -- relaxing the set limits always gives their latest times
 pub relaxed-times : (t : Difference) (r : Bool) (limits : List Limit) (times : List ℤ) (n : ℕ) → limits ≡ vec-items (t .stack .records) → n ≡ t .variables
-    → When r (Latest limits times) (NoTimes limits n) → When r (times ≡ latest limits n) (Unit {0})
+    → When r (Latest limits times) (NoTimes limits n) → When r (times ≡ latest limits n) (times ≡ pass limits (latest limits n))
     → times ≡ latest (vec-items (t .stack .records)) (t .variables)
 relaxed-times t true limits times n e m l a = a ∙ ap (λ ls. latest ls n) e ∙ ap (latest (vec-items (t .stack .records))) m
 relaxed-times t false limits times n e m l a =

@@ -31,12 +31,6 @@ module _ {js : List Join} where
   joined-sym (onward j h e q) = joined-trans (back j h e itself) (joined-sym q)
   joined-sym (back j h e q) = joined-trans (onward j h e itself) (joined-sym q)
 
-  -- joined by some, joined by more
-  pub joined-more : {ks : List Join} {x y : ℕ} → ((j : Join) → Has js j → Has ks j) → Joined js x y → Joined ks x y
-  joined-more f itself = itself
-  joined-more f (onward j h e q) = onward j (f j h) e (joined-more f q)
-  joined-more f (back j h e q) = back j (f j h) e (joined-more f q)
-
   -- what equalities pass on is passed on from end to end
   pub joined-passes : (P : ℕ → Type 0) → ((j : Join) → Has js j → j .equal ≡ true → (P (j .a) → P (j .b)) × (P (j .b) → P (j .a)))
       → {x y : ℕ} → Joined js x y → P x → P y

@@ -72,9 +72,6 @@ module _ (ls : List Limit) (n : ℕ) where
     pub latest-from-met : (times : List ℤ) → All (Met times) ls → Latest ls (latest ls n)
     latest-from-met times met = latest-from-still (n - 1) (still-from-zeros (n - 1) (omega arith) times met)
 
-    pub none-from-latest : moves ls (latest ls n) ≡ true → NoTimes ls n
-    none-from-latest e = none-from-moves (n - 1) (omega arith) e
-
     -- how far down so many passes go
     pub shallow-from-zeros : (k : ℕ) → Shallow (k * (length ls * 1000001)) (passes k ls (zeros n))
     shallow-from-zeros k =

@@ -55,13 +55,13 @@ fn relax_pass(limits: &[Limit], times: &mut [i64]) -> bool
 }
 
 // Writes the latest times that meet the limits, none above zero, and answers true; or answers false where no times meet
-// them. A cycle of limits whose sum is below zero has no times; it shows by a change in as many passes as there are
-// times.
+// them, and leaves what the last pass made of them. A cycle of limits whose sum is below zero has no times; it shows by a
+// change in as many passes as there are times.
 pub fn relax(limits: &[Limit], times: &mut [i64]) -> bool
     requires fits { ⌜ All (Fits (length (now times))) (now limits) ⌝ }
     requires few { ⌜ length (now limits) ≤ 513 ⌝ ∗ ⌜ length (now times) ≤ 512 ⌝ }
     ensures latest { λ r. ⌜ When r (Latest (now (limits .entry)) (now (times .exit))) (NoTimes (now (limits .entry)) (length (now (times .entry)))) ⌝ }
-    ensures after { λ r. ⌜ When r (now (times .exit) ≡ latest (now (limits .entry)) (length (now (times .entry)))) (Unit {0}) ⌝ }
+    ensures after { λ r. ⌜ When r (now (times .exit) ≡ latest (now (limits .entry)) (length (now (times .entry)))) (now (times .exit) ≡ pass (now (limits .entry)) (latest (now (limits .entry)) (length (now (times .entry))))) ⌝ }
 {
     for time in times.iter_mut() {
         *time = 0;

@@ -2,11 +2,11 @@
 use mathlib.Core.Bool.{Bool, true, false, _||_}
 use mathlib.Core.List.{List, [], _∷_, _++_, map}
 use mathlib.Core.Path.{_≡_, refl, sym, ap, _∙_}
-use Prim.Native.Nat.{ℕ, _+_, _/_, _<_, _≤_}
+use Prim.Native.Nat.{ℕ, _+_, _<_, _≤_}
 use native.Mathlib.Omega.{arith}
 use lib.Dec.{eqb}
-use lib.ListN.{length, take, drop, getD, set, length-set}
-use Rattle.std.proofs.shelf.Lists.{drop-more, drop-all, take-more-set, map-more, drop-set-lt, drop-drop, take-all, take-append-drop, length-map}
+use lib.ListN.{length, take, drop, getD, set}
+use Rattle.std.proofs.shelf.Lists.{drop-more, drop-all, take-more-set, map-more, drop-set-lt, drop-drop, take-all, take-append-drop}
 use Rattle.std.proofs.shelf.Tests.{eq-eqb, ne-eqb}
 
 -- A search through the records: `any` is a test of codes, which says whether one of them has a key that is looked for.

@@ -9,7 +9,7 @@ use Rattle.std.specs.Orderings.{When}
 use Rattle.std.specs.shelf.Lists.{All}
 use Rattle.std.proofs.shelf.Lists.{length-take-le}
 use Rattle.relaxing.specs.declared.Limit.{Limit}
-use Rattle.relaxing.specs.Limits.{Fits, Latest, NoTimes, moves, latest}
+use Rattle.relaxing.specs.Limits.{Fits, Latest, NoTimes, moves, pass, latest}
 use Rattle.relaxing.proofs.Passes.{met-still}
 use Rattle.difference.proofs.have_times.Needs as need
 
@@ -18,7 +18,7 @@ part : (variables : ℕ) → variables ≤ 512 → length (take variables (repli
 part variables l = length-take-le variables (replicate 512 (pos 0)) l
 
 told : (r : Bool) (limits : List Limit) (times : List ℤ) (n variables : ℕ) → n ≡ variables → When r (Latest limits times) (NoTimes limits n)
-    → When r (times ≡ latest limits n) (Unit {0}) → When r (moves limits (latest limits variables) ≡ false) (NoTimes limits variables)
+    → When r (times ≡ latest limits n) (times ≡ pass limits (latest limits n)) → When r (moves limits (latest limits variables) ≡ false) (NoTimes limits variables)
 told true limits times n variables e l a =
     met-still limits (latest limits variables) (subst (λ w. Latest limits w) (a ∙ ap (latest limits) e) l .met)
 told false limits times n variables e l a = subst (NoTimes limits) e l

@@ -70,7 +70,11 @@ returns-then-done-times c =
     let done = c .loop-done .done in
     let is = subst (λ k. c .loop-done .times ≡ passes done ls (zeros k)) (c .loop-time .kept .times) (c .loop-done .inv .0) in
     let moved = moves-is ls n done (c .loop-done .times) is (c .loop-done-test .ensures tt .moved) in
-    record { latest = none-from-moves ls n (c .pre .fits) done (omega arith) moved; after = tt }
+    let last : done ≡ n - 1 = omega (arith, c .loop-done .inv .1, c .loop-time .kept .times) in
+    record {
+      latest = none-from-moves ls n (c .pre .fits) done (omega arith) moved;
+      after = c .loop-done-test .ensures tt .after ∙ ap (pass ls) (is ∙ ap (λ k. passes k ls (zeros n)) last);
+    }
 
 pub loop-done-again : need.loop-done-again
 loop-done-again c =

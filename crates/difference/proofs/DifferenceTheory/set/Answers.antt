@@ -1,18 +1,17 @@
 use mathlib.Core.Bool.{true, false}
 use mathlib.Core.List.{List, [], _∷_, _++_}
 use mathlib.Core.Path.{_≡_, refl, sym, ap, subst, _∙_}
-use Prim.Native.Nat.{ℕ, _+_, _<_, _≤_}
 use native.Mathlib.Omega.{arith}
 use lib.ListN.{length}
 use Rattle.std.specs.shelf.Lists.{All}
-use Rattle.std.specs.Of.Vec.{vec-items, vec-len, vec-cap}
+use Rattle.std.specs.Of.Vec.{vec-items}
 use Rattle.relaxing.specs.declared.Limit.{Limit}
 use Rattle.relaxing.specs.Limits.{Fits, NoTimes, moves, latest}
 use Rattle.theory.specs.Meaning.{different}
 use Rattle.theory.specs.Calls.{retreated}
 use Rattle.difference.specs.Differences.{limitOf, codesOf}
 use Rattle.difference.proofs.Sound.{Sound, Kept, lawful, limits-fit, few-limits}
-use Rattle.difference.proofs.Values.{Passed, passed, kept-of, limit-read, sound-grown, gained, clashed}
+use Rattle.difference.proofs.Values.{passed, kept-of, limit-read, sound-grown, gained, clashed}
 use Rattle.theory.proofs.Retreats.{retreated-push}
 use Rattle.difference.proofs.DifferenceTheory.set.Needs as need
 
