@@ -1,4 +1,6 @@
 // Reads a question file from standard input, and says what it holds or why it is refused.
+#![tactic(auto)]
+
 use question_file::load::load;
 use std::alloc::Global;
 use std::io;

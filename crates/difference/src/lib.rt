@@ -1,4 +1,6 @@
 // The difference theory: limits on the differences of times.
+#![tactic(auto)]
+
 ghost use Rattle.std.specs.Prelude.{◌≡◌, ℕ, ◌≤◌, true, false, List, [], ◌∷◌, map, length, vec_len, vec_capacity, MatchBool};
 ghost use Rattle.std.specs.List.{AllByRecursion as All};
 ghost use Rattle.relaxing.specs.Limits.{Fits, NoTimes, moves, latest};

@@ -1,4 +1,6 @@
 // The equality theory: variables that are to be equal or to differ.
+#![tactic(auto)]
+
 ghost use Rattle.std.specs.Prelude.{◌≡◌, ℕ, ◌≤◌, true, List, [], ◌∷◌, map, length, vec_len, vec_capacity, MatchBool};
 ghost use Rattle.std.specs.List.{AllByRecursion as All};
 ghost use Rattle.joining.specs.Joins.{Fits, Lowest, NoWorld, agrees, labelled};

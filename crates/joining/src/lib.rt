@@ -1,5 +1,7 @@
 // Which variables equalities join, each set of joined variables shown by its lowest number, and whether differences
 // agree with them.
+#![tactic(auto)]
+
 ghost use Rattle.std.specs.Prelude.{◌≡◌, ◌≤◌, length, MatchBool};
 ghost use Rattle.std.specs.List.{AllByRecursion as All};
 ghost use Rattle.joining.specs.Joins.{Fits, relabelled, joined_by, labelled, agrees, join_holds, Lowest, Holds, NoWorld};

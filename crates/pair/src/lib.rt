@@ -1,4 +1,6 @@
 // A pair of two theories, again a theory: the left's atoms and variables come first, the right's behind them.
+#![tactic(auto)]
+
 ghost use Rattle.std.specs.Prelude.{◌≡◌, ◌+◌, ◌<◌, ◌≤◌, true, [], map, length, vec_capacity};
 ghost use Rattle.std.specs.List.{AllByRecursion as All};
 ghost use Rattle.pair.specs.Held.{Together, codes_of, meaning_of, world_of, conflict_of, places_of};

@@ -1,3 +1,5 @@
 // Tests of pairs through the theory interface, a table of steps for each case.
+#![tactic(auto)]
+
 #[cfg(test)]
 mod tests;

@@ -1,5 +1,7 @@
 // Asks a question about two switches call by call. Each call is made with the pass of its stage, and a program that made
 // one in another stage would not compile.
+#![tactic(auto)]
+
 ghost use Rattle.std.specs.Prelude.{◌≡◌, true};
 ghost use Rattle.question.specs.Asked.{Asked, state_of};
 ghost use Rattle.passes.specs.Staged.{is_open, is_searched, MeetsPass};

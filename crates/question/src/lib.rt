@@ -1,4 +1,6 @@
 // A question over any theory: clauses are posted, a search decides them, and passes say which calls the stage allows.
+#![tactic(auto)]
+
 ghost use Rattle.std.specs.Prelude.{◌≡◌};
 ghost use Rattle.question.specs.Stages.{stage_after};
 

@@ -1,4 +1,6 @@
 // Tests of the loader on files that are written out in hexadecimal, and on files at the edges of the limits.
+#![tactic(auto)]
+
 #[cfg(test)]
 mod tests {
     use question_file::check::{Room, check as check_file};

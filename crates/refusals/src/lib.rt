@@ -1,4 +1,6 @@
 // The grounds on which this program refuses something, and the fault that carries one up to the caller.
+#![tactic(auto)]
+
 ghost use Rattle.std.specs.Prelude.{◌≡◌, ◌++◌, Some, codes, decimal};
 ghost use Rattle.refusals.specs.Grounds.{number_of, layer_of, fault_at, located_at};
 

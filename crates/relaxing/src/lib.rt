@@ -1,4 +1,6 @@
 // The latest times, none above zero, that meet limits on their differences; or that there are no such times.
+#![tactic(auto)]
+
 ghost use Rattle.std.specs.Prelude.{◌≡◌, ℕ, ◌+◌, ◌*◌, ◌≤◌, length, MatchBool};
 ghost use Rattle.std.specs.List.{AllByRecursion as All};
 ghost use Rattle.relaxing.specs.Limits.{Fits, Shallow, lowers, relaxed, moves, pass, latest, Latest, NoTimes};

@@ -1,5 +1,7 @@
 // The search's step list, and what holds of every list of calls to a question that keeps to it. What there is to prove
 // stands in specs/ and is proved here; the question, in a crate of its own, names it in its contracts.
+#![tactic(auto)]
+
 ghost use Rattle.steps.specs.Promises.{Promises};
 
 use theory::Theory;

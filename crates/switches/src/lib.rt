@@ -1,4 +1,6 @@
 // The switch theory: plain switches, each an atom and a variable.
+#![tactic(auto)]
+
 ghost use Rattle.std.specs.Prelude.{◌≡◌, ℕ, ◌≤◌, true, List, [], map, vec_capacity};
 ghost use Rattle.theory.specs.Meaning.{different};
 ghost use Rattle.switches.specs.Switching.{switch_meaning, switch_world, shown_switches};

@@ -1,4 +1,6 @@
 // The entries of a question's two tables, and which entries a table takes.
+#![tactic(auto)]
+
 ghost use Rattle.std.specs.Prelude.{◌≡◌, ℕ, Bool};
 ghost use Rattle.tables.specs.Entries.{variables_check, difference_check, equality_check, difference_fits, equality_fits, all_entries_fit};
 

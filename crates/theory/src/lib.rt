@@ -1,4 +1,6 @@
 // The theory interface: what a search may take for granted of the theory under it.
+#![tactic(auto)]
+
 ghost use Rattle.std.specs.Prelude.{◌≡◌, ℕ, true, List, [], ℤ};
 ghost use Rattle.theory.specs.Calls.{SetBy, retreat_answer, retreated, world_answer, world_written};
 ghost use Rattle.theory.specs.Meaning.{Meaning, Lawful, different, WorldOf};

@@ -1,4 +1,6 @@
 // Tables of steps: what a test asks of a theory through the interface, and what it should answer.
+#![tactic(auto)]
+
 ghost use Rattle.std.specs.Prelude.{ℕ};
 
 use difference::Difference;
