@@ -14,7 +14,8 @@ use Rattle.theory.proofs.Conflicts.{set_clashed}
 use Rattle.theory.proofs.Grounds.{set_accepted}
 use Rattle.difference.specs.declared.Difference.{Difference}
 use Rattle.difference.specs.Differences.{entry_limit, limit_of, difference_meaning, LatestWorld, codes_of}
-use Rattle.difference.specs.Sound.{Sound, Kept, sound_push, codes_push, no_world, worldly, met_all}
+use Rattle.difference.specs.Laws.{different_at, worldly}
+use Rattle.difference.proofs.Sound.{Sound, Kept, sound_push, codes_push, no_world, met_all}
 
 pub kept_of : (t : Difference) → Kept t.variables (vec_items t.table) (vec_items t.stack.records)
 kept_of t =
@@ -22,7 +23,7 @@ kept_of t =
       sound =
           record {
             fits = t.fits;
-            apart = subst (λ n. different n (codes_of (vec_items t.stack.records)) ≡ true) t.table.ok.0 t.apart;
+            apart = different_at (codes_of (vec_items t.stack.records)) t.apart t.table.ok.0;
             drawn = t.drawn;
           };
       settled = t.settled;
@@ -106,7 +107,7 @@ latest_world t =
     let k = kept_of t in
     let l = latest_when_still held t.variables t.settled in
     record {
-      is_world = worldly k.sound t.settled;
+      is_world = worldly t.variables (vec_items t.table) held t.drawn t.settled;
       not_above = l.not_above;
       latest_of_all = λ other w n x h. l.latest_of_all other (w.whole ∙ sym (length_latest held t.variables)) n (met_all k.sound other w.all_hold) x h;
     }

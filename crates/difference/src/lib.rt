@@ -8,8 +8,7 @@ ghost use Rattle.tables.specs.Entries.{difference_fits, all_entries_fit};
 ghost use Rattle.theory.specs.Calls.{world_answer, world_written};
 ghost use Rattle.theory.specs.Meaning.{different};
 ghost use Rattle.difference.specs.Differences.{entry_limit, difference_meaning, LatestWorld, shown_table, shown_variables, codes_of, limits_of};
-ghost use Rattle.difference.specs.Sound;
-ghost use Rattle.std.proofs.Common.{rules, arith};
+ghost use Rattle.difference.specs.Laws;
 
 use refusals::Refusal;
 use relaxing::{Limit, relax};
@@ -115,11 +114,11 @@ impl Theory for Difference {
     // the new literal and all set literals
     ghost given_conflict = { λ t code. code ∷ codes_of t.stack.records.items };
 
-    ghost lawful = { λ t m. Sound.lawful t.variables t.table.items t.fits };
+    ghost lawful = { λ t _. Laws.lawful t.variables t.table.items t.fits };
 
-    ghost apart = { first_of (Prim.search rules, Prim.grind (arith, Self.row.coded.inj)) };
+    ghost apart = { λ t _. Laws.different_at (codes_of t.stack.records.items) t.apart t.table.ok.0 };
 
-    ghost worldly = { first_of (Prim.search rules, Prim.grind (arith, Self.row.coded.inj)) };
+    ghost worldly = { λ t _. Laws.worldly t.variables t.table.items t.stack.records.items t.drawn t.settled };
 
     fn sizes(&self) -> Sizes {
         Sizes {

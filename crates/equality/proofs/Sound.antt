@@ -78,15 +78,6 @@ module _ {variables : ℕ} {table : List EqualityEntry} {joins : List Join} (s :
       agrees_from_world (take k joins) variables (All-take (Fits variables) k joins joins_fit) world
       (All-take (λ j. join_holds world j ≡ true) k joins (holds_labelled joins variables h))
 
-  -- the labels are a world of the set literals
-  pub worldly : agrees joins (labelled joins variables) ≡ true → WorldOf (equality_meaning variables table) (codes_of joins) (labelled joins variables)
-  worldly h =
-      record {
-        whole = length_labelled joins variables;
-        all_hold =
-            all_codes (λ j. j.code) (join_of table) joins s.drawn (λ j. join_holds (labelled joins variables) j ≡ true) (holds_labelled joins variables h);
-      }
-
   -- where the set joins and a new one have no world, the literals have none
   pub no_world : (code : ℕ) → NoJoined (joins ++ (join_of table code ∷ [])) variables → NoWorld (equality_meaning variables table) (code ∷ codes_of joins)
   no_world code none world w =

@@ -6,39 +6,31 @@ use Rattle.tables.specs.Entries.{all_entries_fit, equality_fits}
 use Rattle.theory.specs.Meaning.{different}
 use Rattle.equality.specs.declared.Equality.{Equality}
 use Rattle.equality.specs.Equalities.{codes_of, joins_of}
+use Rattle.equality.specs.Laws.{different_at}
 use Rattle.equality.proofs.Sound.{Kept}
 
 pub kept_of : (t : Equality) → Kept t.variables (vec_items t.table) (vec_items t.stack.records)
 kept_of t =
     record {
-      sound =
-          record {
-            fits = t.fits;
-            apart = subst (λ n. different n (codes_of (vec_items t.stack.records)) ≡ true) t.table.ok.0 t.apart;
-            drawn = t.drawn;
-          };
+      sound = record { fits = t.fits; apart = different_at (codes_of (vec_items t.stack.records)) t.apart t.table.ok.0; drawn = t.drawn };
       settled = t.settled;
     }
 
 -- the ghost fields of the value with another stack: its joins, and how many places it has
-abbrev pub Fields : Equality → List Join → ℕ → Type 0
-Fields t joins places =
-    (all_entries_fit equality_fits t.variables (vec_items t.table) ≡ true)
-    × ((vec_len t.table ≤ places)
-    × ((different (vec_len t.table) (codes_of joins) ≡ true)
-    × ((joins ≡ joins_of (vec_items t.table) (codes_of joins))
-    × ((agrees joins (labelled joins t.variables) ≡ true)
-    × Unit {0}))))
+pub record Fields (t : Equality) (joins : List Join) (places : ℕ) : Type 0 where
+  pub fits : all_entries_fit equality_fits t.variables (vec_items t.table) ≡ true
+  pub places_left : vec_len t.table ≤ places
+  pub apart : different (vec_len t.table) (codes_of joins) ≡ true
+  pub drawn : joins ≡ joins_of (vec_items t.table) (codes_of joins)
+  pub settled : agrees joins (labelled joins t.variables) ≡ true
 
 pub fields_of : (t : Equality) (joins : List Join) (places : ℕ) → places ≡ vec_capacity t.stack.records → Kept t.variables (vec_items t.table) joins
     → Fields t joins places
-fields_of t joins places same k = (
-  t.fits,
-  (
-    subst (λ n. vec_len t.table ≤ n) (sym same) t.places,
-    (
-      subst (λ n. different n (codes_of joins) ≡ true) (sym t.table.ok.0) k.sound.apart,
-      (k.sound.drawn, (k.settled, tt)),
-    ),
-  ),
-)
+fields_of t joins places same k =
+    record {
+      fits = t.fits;
+      places_left = subst (λ n. vec_len t.table ≤ n) (sym same) t.places;
+      apart = subst (λ n. different n (codes_of joins) ≡ true) (sym t.table.ok.0) k.sound.apart;
+      drawn = k.sound.drawn;
+      settled = k.settled;
+    }

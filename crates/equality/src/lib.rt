@@ -8,7 +8,8 @@ ghost use Rattle.tables.specs.Entries.{equality_fits, all_entries_fit};
 ghost use Rattle.theory.specs.Calls.{world_answer, world_written};
 ghost use Rattle.theory.specs.Meaning.{different};
 ghost use Rattle.equality.specs.Equalities.{entry_join, equality_meaning, shown_table, shown_variables, codes_of, joins_of};
-ghost use Rattle.std.proofs.Common.{rules, arith};
+ghost use Rattle.std.proofs.Common.{rules};
+ghost use Rattle.equality.specs.Laws;
 
 use joining::{Join, join_all};
 use refusals::Refusal;
@@ -105,11 +106,11 @@ impl Theory for Equality {
     // the new literal and all set literals
     ghost given_conflict = { λ t code. code ∷ codes_of t.stack.records.items };
 
-    ghost lawful = { first_of (Prim.search rules, Prim.grind (arith, Self.row.coded.inj)) };
+    ghost lawful = { Prim.search rules };
 
-    ghost apart = { first_of (Prim.search rules, Prim.grind (arith, Self.row.coded.inj)) };
+    ghost apart = { λ t _. Laws.different_at (codes_of t.stack.records.items) t.apart t.table.ok.0 };
 
-    ghost worldly = { first_of (Prim.search rules, Prim.grind (arith, Self.row.coded.inj)) };
+    ghost worldly = { λ t _. Laws.worldly t.variables t.table.items t.stack.records.items t.drawn t.settled };
 
     fn sizes(&self) -> Sizes {
         Sizes {

@@ -8,7 +8,7 @@ use Rattle.theory.specs.declared.Sizes.{Sizes}
 use Rattle.theory.specs.declared.Theory.{Ghosts}
 use Rattle.theory.specs.Meaning.{Meaning, WorldOf, atom_of, different}
 use Rattle.pair.proofs.Sets.{Grown, refused_left, refused_right, gained_left, gained_right}
-use Rattle.pair.specs.Worlds.{pair_worldly}
+use Rattle.pair.specs.Worlds.{pair_worldly, world_at}
 use Rattle.pair.specs.Held.{codes_of, places_of, meaning_of, world_of, conflict_of, Together}
 use Rattle.pair.specs.Pairs.{is_left, left_of, right_of, raised, sizes_of, pair_fits, pair_sizes, pair_meaning, shown_if, shown_pair, RaisedSetBy}
 use Rattle.pair.specs.declared.Pair.{Pair}
@@ -107,8 +107,8 @@ module _ {L R : Type 0} (gl : Ghosts L) (gr : Ghosts R) where
       → WorldOf (gr.meaning p.right) (gr.stack p.right) (gr.given_world p.right) → WorldOf (meaning_of gl gr p) (codes_of p) (world_of gl gr p)
   together_worldly p t h k =
       pair_worldly (gl.meaning p.left) (gr.meaning p.right) (places_of p) (codes_of p) (gl.given_world p.left) (gr.given_world p.right) t.apart
-      (subst (λ codes. WorldOf (gl.meaning p.left) codes (gl.given_world p.left)) t.left_stack h)
-      (subst (λ codes. WorldOf (gr.meaning p.right) codes (gr.given_world p.right)) t.right_stack k)
+      (world_at (gl.meaning p.left) (gl.given_world p.left) t.left_stack h)
+      (world_at (gr.meaning p.right) (gr.given_world p.right) t.right_stack k)
 
   -- a refused literal of a side leaves the pair as it was
   module _ (p : Pair L R) (t : Together gl gr p) (code : ℕ) (list list' : List ℕ) (why : Refusal) (k : Looked p code list) where

@@ -8,6 +8,10 @@ use Rattle.theory.proofs.Apart.{different_few}
 use Rattle.theory.specs.Meaning.{Meaning, Lawful, AllHold, WorldOf, different}
 use Rattle.pair.specs.Pairs.{is_left, left_of, right_of, pair_meaning, sizes_of, pair_fits, shown_if, shown_pair, pair_world, PairExact}
 
+-- the same literals may be written in another way
+pub world_at : (m : Meaning) (world : List ℤ) {codes codes' : List ℕ} → codes ≡ codes' → WorldOf m codes world → WorldOf m codes' world
+world_at m world e w = subst (λ ls. WorldOf m ls world) e w
+
 -- one more literal, of the side that a test says
 module _ (P Q : ℕ → Bool) (x y : ℕ) (ls rs : List ℕ) where
   split_more : (b : Bool) → cond b (P x) (Q y) ≡ true → All (λ c. P c ≡ true) ls × All (λ c. Q c ≡ true) rs

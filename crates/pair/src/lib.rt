@@ -5,8 +5,7 @@ ghost use Rattle.std.specs.Prelude.{◌≡◌, ◌+◌, ◌<◌, ◌≤◌, true
 ghost use Rattle.std.specs.List.{AllByRecursion as All};
 ghost use Rattle.pair.specs.Held.{Together, codes_of, meaning_of, world_of, conflict_of, places_of};
 ghost use Rattle.pair.specs.Pairs.{left_of, raised, pair_fits, pair_sizes, shown_pair, sizes_of, PairExact, RaisedSetBy};
-ghost use Rattle.pair.specs.Worlds.{pair_lawful};
-ghost use Rattle.std.proofs.Common.{rules};
+ghost use Rattle.pair.specs.Worlds.{pair_lawful, pair_worldly, world_at};
 
 use refusals::Refusal;
 use theory::stack::{Literal, Stack};
@@ -160,7 +159,13 @@ impl<L: Theory, R: Theory> Theory for Pair<L, R> {
         pair_lawful (L.Theory.meaning p.left) (R.Theory.meaning p.right)
         (L.Theory.lawful p.left t.left_made) (R.Theory.lawful p.right t.right_made) (places_of p) };
 
-    ghost apart = { Prim.search rules };
+    ghost apart = { λ p t. t.apart };
+
+    ghost worldly = { λ p t.
+        pair_worldly (L.Theory.meaning p.left) (R.Theory.meaning p.right) (places_of p) (codes_of p)
+        (L.Theory.given_world p.left) (R.Theory.given_world p.right) t.apart
+        (world_at (L.Theory.meaning p.left) (L.Theory.given_world p.left) t.left_stack (L.Theory.worldly p.left t.left_made))
+        (world_at (R.Theory.meaning p.right) (R.Theory.given_world p.right) t.right_stack (R.Theory.worldly p.right t.right_made)) };
 
     fn sizes(&self) -> Sizes {
         self.sizes

@@ -9,7 +9,7 @@ use Rattle.joining.proofs.Chains.{holds_from_agrees}
 use Rattle.joining.proofs.Labelled.{lowest_labelled, none_from_agrees}
 use Rattle.joining.proofs.Labels.{joined_by_all_push, numbers_push}
 use Rattle.joining.proofs.join_all.Goals as goal
-use Rattle.joining.proofs.join_all.Goals.{After-loop-join, at·returns, at·returns-then-not-agrees-with}
+use Rattle.joining.proofs.join_all.Goals.{After-loop-join, at-returns, at-returns-then-not-agrees_with}
 
 -- what stands past the end of a list
 abbrev none : Join
@@ -28,13 +28,13 @@ loop-x-preserved c =
 fits_at : (js : List Join) (n i m : ℕ) → All (Fits n) js → i < length js → m ≡ n → Fits m (get_or js i none)
 fits_at js n i m fits h e = subst (λ k. Fits k (get_or js i none)) (sym e) (All-get_or (Fits n) js i none h fits)
 
-pub join-one-requires : goal.join-one-requires
-join-one-requires c =
+pub join_one-requires : goal.join_one-requires
+join_one-requires c =
     fits_at c.args.joins.now (length c.args.labels.now) c.loop-join.join-index (length c.loop-join.labels)
     c.requires.fits c.loop-join-test.true (omega arith)
 
-pub agrees-with-requires : goal.agrees-with-requires
-agrees-with-requires c =
+pub agrees_with-requires : goal.agrees_with-requires
+agrees_with-requires c =
     fits_at c.args.joins.now (length c.args.labels.now) c.loop-join-2.join-index (length c.loop-join.labels)
     c.requires.fits c.loop-join-2-test.true (omega arith)
 
@@ -43,7 +43,7 @@ loop-join-preserved c =
     let js = c.args.joins.now in
     let start = c.loop-x.labels in
     let i = c.loop-join.join-index in
-    c.join-one.ensures
+    c.join_one.ensures
     ∙ ap (joined_by (get_or js i none)) c.loop-join.invariant
     ∙ sym (joined_by_all_push (take i js) (get_or js i none) start)
     ∙ ap (λ front. joined_by_all front start) (sym (take_more js i none c.loop-join-test.true))
@@ -74,18 +74,18 @@ rest js w i b h inv e =
 pub loop-join-2-preserved : goal.loop-join-2-preserved
 loop-join-2-preserved c =
     rest c.args.joins.now c.loop-join.labels c.loop-join-2.join-index true
-    c.loop-join-2-test.true c.loop-join-2.invariant c.if-not-agrees-with.ensures
+    c.loop-join-2-test.true c.loop-join-2.invariant c.if-not-agrees_with.ensures
 
-pub returns-then-not-agrees-with : goal.returns-then-not-agrees-with
-returns-then-not-agrees-with c =
+pub returns-then-not-agrees_with : goal.returns-then-not-agrees_with
+returns-then-not-agrees_with c =
     let js = c.args.joins.now in
     let w = c.loop-join.labels in
-    let is = after_loops (at·returns-then-not-agrees-with c).After-loop-join in
+    let is = after_loops (at-returns-then-not-agrees_with c).After-loop-join in
     let agreed : false ≡ agrees js w =
-    rest js w c.loop-join-2.join-index false c.loop-join-2-test.true c.loop-join-2.invariant c.if-not-agrees-with.ensures in
+    rest js w c.loop-join-2.join-index false c.loop-join-2-test.true c.loop-join-2.invariant c.if-not-agrees_with.ensures in
     record {
       after = is;
-      lowest = lowest_after (at·returns-then-not-agrees-with c).After-loop-join;
+      lowest = lowest_after (at-returns-then-not-agrees_with c).After-loop-join;
       agreed = agreed;
       exact = none_from_agrees js (length c.args.labels.now) c.requires.fits (ap (agrees js) (sym is) ∙ sym agreed);
     }
@@ -97,8 +97,8 @@ returns c =
     let agreed : true ≡ agrees js w =
     sym (at_drop_all (λ ks. agrees ks w) js c.loop-join-2.join-index c.loop-join-2-test.false) ∙ c.loop-join-2.invariant in
     record {
-      after = after_loops (at·returns c).After-loop-join;
-      lowest = lowest_after (at·returns c).After-loop-join;
+      after = after_loops (at-returns c).After-loop-join;
+      lowest = lowest_after (at-returns c).After-loop-join;
       agreed = agreed;
       exact = holds_from_agrees js w (sym agreed);
     }

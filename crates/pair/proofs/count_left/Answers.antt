@@ -23,14 +23,14 @@ more atoms came i d l =
     ∙ ap length (left_of_append atoms (map (λ c. c.code) (take i came)) ((get_or came i d).code ∷ []))
     ∙ length-append (left_of atoms (map (λ c. c.code) (take i came))) (left_of atoms ((get_or came i d).code ∷ []))
 
-pub overflow-add-count : goal.overflow-add-count
-overflow-add-count c = let f = few c.args.atoms c.args.came.now c.loop-one.one_Index c.loop-one.auto.one-index-end in omega arith
+pub overflow_add-count : goal.overflow_add-count
+overflow_add-count c = let f = few c.args.atoms c.args.came.now c.loop-one.one-index c.loop-one.auto.one-index-end in omega arith
 
 pub loop-one-preserved : goal.loop-one-preserved
 loop-one-preserved c =
     let atoms = c.args.atoms in
     let came = c.args.came.now in
-    let i = c.loop-one.one_Index in
+    let i = c.loop-one.one-index in
     let d : Literal = record { code = 0 } in
     let code = (get_or came i d).code in
     let m = more atoms came i d c.loop-one-test.true in
@@ -41,4 +41,4 @@ loop-one-preserved c =
 
 pub returns : goal.returns
 returns c =
-    c.loop-one.invariant ∙ ap (λ xs. length (left_of c.args.atoms (map (λ c. c.code) xs))) (take_all c.loop-one.one_Index c.args.came.now c.loop-one-test.false)
+    c.loop-one.invariant ∙ ap (λ xs. length (left_of c.args.atoms (map (λ c. c.code) xs))) (take_all c.loop-one.one-index c.args.came.now c.loop-one-test.false)

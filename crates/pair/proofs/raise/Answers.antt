@@ -12,8 +12,8 @@ unraised f xs ys i l e =
     ∙ get_or-drop i xs (i - i) 0
     ∙ ap (λ n. get_or xs n 0) (omega arith)
 
-pub overflow-add-code : goal.overflow-add-code
-overflow-add-code c =
+pub overflow_add-code : goal.overflow_add-code
+overflow_add-code c =
     let xs = c.args.codes.now in
     let i = c.loop-code.code-index in
     let u = unraised (λ n. n + c.args.by) xs c.loop-code.codes i c.loop-code-test.true c.loop-code.invariant in

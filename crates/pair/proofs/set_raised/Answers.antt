@@ -22,11 +22,11 @@ short g c =
     count_within (g.T.Theory.meaning t) (g.T.Theory.stack t) (g.T.Theory.given_conflict t code) code c.args.conflict.now (g.T.Theory.stack c.set-answer.new.self) c.set-answer.new.conflict
     c.in-Clash.count (told g c)
 
-pub slice-bounds-raise-end : goal.slice-bounds-raise-end
-slice-bounds-raise-end g c = short g c
+pub slice_bounds-raise-end : goal.slice_bounds-raise-end
+slice_bounds-raise-end g c = short g c
 
-pub slice-bounds-raise-end-in-Clash : goal.slice-bounds-raise-end-in-Clash
-slice-bounds-raise-end-in-Clash g c = sym (length-take-le c.in-Clash.count c.set-answer.new.conflict (short g (goal.at.slice-bounds-raise-end-in-Clash g c).In-Clash))
+pub slice_bounds-raise-end-in-Clash : goal.slice_bounds-raise-end-in-Clash
+slice_bounds-raise-end-in-Clash g c = sym (length-take-le c.in-Clash.count c.set-answer.new.conflict (short g (goal.at.slice_bounds-raise-end-in-Clash g c).In-Clash))
 
 pub raise-requires : goal.raise-requires
 raise-requires g c =

@@ -40,8 +40,8 @@ loop-done-init c =
     let full : length w ≡ i = omega arith in
     (sym (take_all i w (omega arith)) ∙ c.loop-time.invariant ∙ ap (λ n. replicate n (pos 0)) (sym full), omega arith)
 
-pub relax-pass-requires : goal.relax-pass-requires
-relax-pass-requires c =
+pub relax_pass-requires : goal.relax_pass-requires
+relax_pass-requires c =
     let ls = c.args.limits.now in
     let n = length c.loop-time.times in
     let done = c.loop-done.done in

@@ -35,8 +35,8 @@ module _ (w : List ℤ) (l : Limit) (fits : Fits (length w) l) (shallow : Shallo
   test_is : lt_z (read (read (at w l.b) +ℤ read l.weight)) (read (at w l.a)) ≡ lowers w l
   test_is = ap₂ lt_z after_is (time_is (at w l.a) (reach l.a fits.a_below))
 
-pub overflow-add-after : goal.overflow-add-after
-overflow-add-after c = after_fits c.args.times.now c.args.limit c.requires.fits c.requires.shallow
+pub overflow_add-after : goal.overflow_add-after
+overflow_add-after c = after_fits c.args.times.now c.args.limit c.requires.fits c.requires.shallow
 
 pub returns-then-after-times : goal.returns-then-after-times
 returns-then-after-times c =

@@ -10,8 +10,8 @@ use Rattle.relaxing.proofs.relax_pass.Goals as goal
 abbrev none : Limit
 none = record { code = 0; a = 0; b = 0; weight = pos 0 }
 
-pub relax-one-moved-requires : goal.relax-one-moved-requires
-relax-one-moved-requires c =
+pub relax_one-moved-requires : goal.relax_one-moved-requires
+relax_one-moved-requires c =
     let ls = c.args.limits.now in
     let w = c.args.times.now in
     let i = c.loop-limit.limit-index in
@@ -35,11 +35,11 @@ loop-limit-preserved c =
     let i = c.loop-limit.limit-index in
     let l = get_or ls i none in
     let more = sym (take_more ls i none c.loop-limit-test.true) in (
-      c.relax-one-moved.ensures.after
+      c.relax_one-moved.ensures.after
           ∙ ap (λ v. relaxed v l) c.loop-limit.invariant.0
           ∙ sym (pass_push (take i ls) l w)
           ∙ ap (λ front. pass front w) more,
-      ap₂ ◌||◌ c.loop-limit.invariant.1 (c.relax-one-moved.ensures.moved ∙ ap (λ v. lowers v l) c.loop-limit.invariant.0)
+      ap₂ ◌||◌ c.loop-limit.invariant.1 (c.relax_one-moved.ensures.moved ∙ ap (λ v. lowers v l) c.loop-limit.invariant.0)
           ∙ sym (moves_push (take i ls) l w)
           ∙ ap (λ front. moves front w) more,
     )

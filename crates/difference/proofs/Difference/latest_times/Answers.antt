@@ -5,7 +5,8 @@ use Rattle.std.specs.List.{AllByRecursion as All}
 use Rattle.refusals.specs.declared.Refusal.TheVariants.{WorldListShort}
 use Rattle.relaxing.specs.Limits.{Fits, latest}
 use Rattle.theory.specs.Calls.{world_answer, world_written}
-use Rattle.difference.specs.Sound.{lawful, limits_fit, few_limits}
+use Rattle.difference.specs.Laws.{lawful}
+use Rattle.difference.proofs.Sound.{limits_fit, few_limits}
 use Rattle.difference.proofs.Values.{kept_of, relaxed_times, latest_world}
 use Rattle.difference.proofs.Difference.latest_times.Goals as goal
 

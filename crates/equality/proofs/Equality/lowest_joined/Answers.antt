@@ -9,8 +9,8 @@ use Rattle.equality.proofs.Sound.{few_variables, joins_fit}
 use Rattle.equality.proofs.Values.{kept_of}
 use Rattle.equality.proofs.Equality.lowest_joined.Goals as goal
 
-pub join-all-requires : goal.join-all-requires
-join-all-requires c =
+pub join_all-requires : goal.join_all-requires
+join_all-requires c =
     let t = c.args.self.now in
     let s = (kept_of t).sound in
     let long : length (take t.variables c.args.list.now) ≡ t.variables = length-take-le t.variables c.args.list.now c.if-list-self.false in
@@ -38,7 +38,7 @@ returns c =
       answer = sym (cond-false _ (Err WorldListShort) (Ok tt) long);
       written =
           ap (λ ls. ls ++ drop t.variables c.args.list.now)
-          (c.join-all.ensures.after ∙ ap (λ js. labelled js (length (take t.variables c.args.list.now))) c.records.ensures ∙ ap (labelled (vec_items t.stack.records)) n)
+          (c.join_all.ensures.after ∙ ap (λ js. labelled js (length (take t.variables c.args.list.now))) c.records.ensures ∙ ap (labelled (vec_items t.stack.records)) n)
           ∙ sym (cond-false _ c.args.list.now (labelled (vec_items t.stack.records) t.variables ++ drop t.variables c.args.list.now) long);
       lowest = lowest_labelled (vec_items t.stack.records) t.variables (joins_fit (kept_of t).sound);
     }

@@ -10,7 +10,7 @@ use Rattle.pair.proofs.Pair.new.Goals as goal
 pub returns : goal.returns
 returns g c =
     let p : Pair g.row.L.Denot g.row.R.Denot =
-    record { left = c.emptied-left.result; right = c.emptied-right.result; cut = c.sizes-cut.result; sizes = c.shown-sizes-sizes.result; stack = c.new-stack.result } in
+    record { left = c.emptied-left.result; right = c.emptied-right.result; cut = c.sizes-cut.result; sizes = c.shown_sizes-sizes.result; stack = c.new-stack.result } in
     let l = g.L.Theory.meaning p.left in
     let r = g.R.Theory.meaning p.right in
     let l₀ = g.L.Theory.meaning c.args.left in
@@ -32,7 +32,7 @@ returns g c =
             right_stack = c.emptied-right.ensures.dropped ∙ sym (ap (right_of l.atoms) codes);
             cut_is = cut;
             sizes_are =
-                c.shown-sizes-sizes.ensures
+                c.shown_sizes-sizes.ensures
                 ∙ ap (λ n. pair_sizes n c.sizes-cut.result c.sizes.result) c.places.ensures
                 ∙ ap (λ s. pair_sizes (places_of p) s c.sizes.result) cut
                 ∙ ap (λ s. pair_sizes (places_of p) (sizes_of l) s) right

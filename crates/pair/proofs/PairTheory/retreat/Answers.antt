@@ -14,21 +14,21 @@ use Rattle.pair.proofs.Drops.{newest_codes, few_lefts, left_went, left_kept, rig
 use Rattle.pair.proofs.Values.{Alike, alike_meaning, together_after}
 use Rattle.pair.proofs.PairTheory.retreat.Given.{Over}
 use Rattle.pair.proofs.PairTheory.retreat.Goals as goal
-use Rattle.pair.proofs.PairTheory.retreat.Goals.{After-count-left-lefts}
+use Rattle.pair.proofs.PairTheory.retreat.Goals.{After-count_left-lefts}
 
 never : (r : Result (Unit {0}) Refusal) (e : Refusal) → r ≡ Ok tt → r ≡ Err e → ⊥
 never r e p q = let z : ◌≡◌ {A = ℕ} 0 1 = cc in omega arith
 
 -- so many are set, and how many of the newest are the left's
-within : (g : Over) (c : After-count-left-lefts g) → c.args.count ≤ length (codes_of c.args.self.now)
+within : (g : Over) (c : After-count_left-lefts g) → c.args.count ≤ length (codes_of c.args.self.now)
 within g c =
     let items = vec_items c.args.self.now.stack.records in omega (arith, length-map items (λ c. c.code), ap length c.records-came.ensures, c.if-count-came.false)
 
-counted : (g : Over) (c : After-count-left-lefts g)
-    → c.count-left-lefts.result ≡ length (left_of (g.L.Theory.meaning c.args.self.now.left).atoms (drop (length (codes_of c.args.self.now) - c.args.count) (codes_of c.args.self.now)))
+counted : (g : Over) (c : After-count_left-lefts g)
+    → c.count_left-lefts.result ≡ length (left_of (g.L.Theory.meaning c.args.self.now.left).atoms (drop (length (codes_of c.args.self.now) - c.args.count) (codes_of c.args.self.now)))
 counted g c =
     let p = c.args.self.now in
-    c.count-left-lefts.ensures
+    c.count_left-lefts.ensures
     ∙ ap (λ codes. length (left_of p.cut.atoms codes)) (newest_codes c.records-came.result.now (vec_items p.stack.records) c.args.count c.records-came.ensures)
     ∙ ap (λ (s : Sizes). length (left_of s.atoms (drop (length (codes_of p) - c.args.count) (codes_of p)))) c.requires.cut_is
 
@@ -43,40 +43,40 @@ returns-then-count-came g c =
       dropped = sym (cond-true (ltb (length (codes_of p)) c.args.count) (codes_of p) (take (length (codes_of p) - c.args.count) (codes_of p)) more);
     }
 
-pub returns-in-err-retreat : goal.returns-in-err-retreat
-returns-in-err-retreat g c =
+pub returns-in_err-retreat : goal.returns-in_err-retreat
+returns-in_err-retreat g c =
     let p = c.args.self.now in
-    let s = (goal.at.returns-in-err-retreat g c).After-count-left-lefts in
+    let s = (goal.at.returns-in_err-retreat g c).After-count_left-lefts in
     absurd
-    (never c.retreat.result c.in-err-retreat.field-0.0
+    (never c.retreat.result c.in_err-retreat.field-0.0
     (c.retreat.ensures.answer
-    ∙ left_went (g.L.Theory.meaning p.left).atoms (codes_of p) c.args.count c.count-left-lefts.result (within g s) (counted g s) (g.L.Theory.stack p.left) c.requires.left_stack)
-    c.in-err-retreat.was)
+    ∙ left_went (g.L.Theory.meaning p.left).atoms (codes_of p) c.args.count c.count_left-lefts.result (within g s) (counted g s) (g.L.Theory.stack p.left) c.requires.left_stack)
+    c.in_err-retreat.was)
 
-pub overflow-sub-count : goal.overflow-sub-count
-overflow-sub-count g c =
+pub overflow_sub-count : goal.overflow_sub-count
+overflow_sub-count g c =
     let p = c.args.self.now in
-    let s = (goal.at.overflow-sub-count g c).After-count-left-lefts in
-    few_lefts (g.L.Theory.meaning p.left).atoms (codes_of p) c.args.count c.count-left-lefts.result (within g s) (counted g s)
+    let s = (goal.at.overflow_sub-count g c).After-count_left-lefts in
+    few_lefts (g.L.Theory.meaning p.left).atoms (codes_of p) c.args.count c.count_left-lefts.result (within g s) (counted g s)
 
-pub returns-in-err-retreat-2 : goal.returns-in-err-retreat-2
-returns-in-err-retreat-2 g c =
+pub returns-in_err-retreat-2 : goal.returns-in_err-retreat-2
+returns-in_err-retreat-2 g c =
     let p = c.args.self.now in
-    let s = (goal.at.returns-in-err-retreat-2 g c).After-count-left-lefts in
+    let s = (goal.at.returns-in_err-retreat-2 g c).After-count_left-lefts in
     absurd
-    (never c.retreat-2.result c.in-err-retreat-2.field-0.0
+    (never c.retreat-2.result c.in_err-retreat-2.field-0.0
     (c.retreat-2.ensures.answer
-    ∙ right_went (g.L.Theory.meaning p.left).atoms (codes_of p) c.args.count c.count-left-lefts.result (within g s) (counted g s) (g.R.Theory.stack p.right) c.requires.right_stack)
-    c.in-err-retreat-2.was)
+    ∙ right_went (g.L.Theory.meaning p.left).atoms (codes_of p) c.args.count c.count_left-lefts.result (within g s) (counted g s) (g.R.Theory.stack p.right) c.requires.right_stack)
+    c.in_err-retreat-2.was)
 
 pub returns : goal.returns
 returns g c =
     let p = c.args.self.now in
     let count = c.args.count in
-    let lefts = c.count-left-lefts.result in
+    let lefts = c.count_left-lefts.result in
     let n = (g.L.Theory.meaning p.left).atoms in
     let items = vec_items p.stack.records in
-    let s = (goal.at.returns g c).After-count-left-lefts in
+    let s = (goal.at.returns g c).After-count_left-lefts in
     let p' : Pair g.row.L.Denot g.row.R.Denot = record { left = c.retreat.new.self; right = c.retreat-2.new.self; cut = p.cut; sizes = p.sizes; stack = c.retreat-3.new.self } in
     let alike : Alike g.L.Theory g.R.Theory p p' =
     record {

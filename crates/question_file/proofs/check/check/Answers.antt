@@ -18,33 +18,33 @@ pub loop-field-init : goal.loop-field-init
 loop-field-init c =
     (c.new-reader.ensures.file, subst (λ o. Leads c.args.room c.args.file.now start o) (sym c.new-reader.ensures.offset) (leads_start c.args.room c.args.file.now))
 
-pub returns-in-err-field : goal.returns-in-err-field
-returns-in-err-field c =
-    let p = err_from_is_err_and c.from-residual.result c.from-residual.ensures.1 in
-    let b = begun c.loop-field.reader.offset {r = Err c.in-err-field.field-0.0} {s = Err c.in-err-field.field-0.0} c.loop-field.invariant.0 refl c.in-err-field.ensures.found in
+pub returns-in_err-field : goal.returns-in_err-field
+returns-in_err-field c =
+    let p = err_from_is_err_and c.from_residual.result c.from_residual.ensures.1 in
+    let b = begun c.loop-field.reader.offset {r = Err c.in_err-field.field-0.0} {s = Err c.in_err-field.field-0.0} c.loop-field.invariant.0 refl c.in_err-field.ensures.found in
     p.1 ∙ ap Err (p.2 ∙ b.1) ∙ leads_torn c.loop-field.invariant.1 b.0
 
-pub returns-in-err-progress : goal.returns-in-err-progress
-returns-in-err-progress c =
-    let p = err_from_is_err_and c.from-residual-in-err-progress.result c.from-residual-in-err-progress.ensures.1 in
-    let b = begun c.loop-field.reader.offset {r = Ok c.in-ok-field.field-0} {s = Ok (Some c.in-Some.field)} c.loop-field.invariant.0 (ap Ok c.in-Some.is) c.in-ok-field.ensures.found in
+pub returns-in_err-progress : goal.returns-in_err-progress
+returns-in_err-progress c =
+    let p = err_from_is_err_and c.from_residual-in_err-progress.result c.from_residual-in_err-progress.ensures.1 in
+    let b = begun c.loop-field.reader.offset {r = Ok c.in_ok-field.field-0} {s = Ok (Some c.in-Some.field)} c.loop-field.invariant.0 (ap Ok c.in-Some.is) c.in_ok-field.ensures.found in
     p.1
     ∙ ap Err p.2
-    ∙ leads_refused c.loop-field.invariant.1 b.2 c.in-err-progress.field-0.0
-    (c.in-err-progress.ensures ∙ ap (λ o. located_at o (count_more c.args.room c.loop-field.progress c.in-Some.field.tag c.in-Some.field.body.now)) b.0)
+    ∙ leads_refused c.loop-field.invariant.1 b.2 c.in_err-progress.field-0.0
+    (c.in_err-progress.ensures ∙ ap (λ o. located_at o (count_more c.args.room c.loop-field.progress c.in-Some.field.tag c.in-Some.field.body.now)) b.0)
 
 pub loop-field-preserved : goal.loop-field-preserved
 loop-field-preserved c =
-    let b = begun c.loop-field.reader.offset {r = Ok c.in-ok-field.field-0} {s = Ok (Some c.in-Some.field)} c.loop-field.invariant.0 (ap Ok c.in-Some.is) c.in-ok-field.ensures.found in
-    let moved : c.next-field.new.self.offset ≡ c.loop-field.reader.offset + (3 + length c.in-Some.field.body.now) = c.in-ok-field.ensures.moves ∙ ap (λ f. c.loop-field.reader.offset + size (Ok f)) c.in-Some.is in (
-      ap (λ r. r.now) c.in-ok-field.ensures.same ∙ c.loop-field.invariant.0,
-      subst (λ o. Leads c.args.room c.args.file.now c.in-ok-progress.progress o) (sym moved)
-          (leads_more c.loop-field.invariant.1 b.2 c.in-ok-progress.progress
-          (c.in-ok-progress.ensures ∙ ap (λ o. located_at o (count_more c.args.room c.loop-field.progress c.in-Some.field.tag c.in-Some.field.body.now)) b.0)
+    let b = begun c.loop-field.reader.offset {r = Ok c.in_ok-field.field-0} {s = Ok (Some c.in-Some.field)} c.loop-field.invariant.0 (ap Ok c.in-Some.is) c.in_ok-field.ensures.found in
+    let moved : c.next_field.new.self.offset ≡ c.loop-field.reader.offset + (3 + length c.in-Some.field.body.now) = c.in_ok-field.ensures.moves ∙ ap (λ f. c.loop-field.reader.offset + size (Ok f)) c.in-Some.is in (
+      ap (λ r. r.now) c.in_ok-field.ensures.same ∙ c.loop-field.invariant.0,
+      subst (λ o. Leads c.args.room c.args.file.now c.in_ok-progress.progress o) (sym moved)
+          (leads_more c.loop-field.invariant.1 b.2 c.in_ok-progress.progress
+          (c.in_ok-progress.ensures ∙ ap (λ o. located_at o (count_more c.args.room c.loop-field.progress c.in-Some.field.tag c.in-Some.field.body.now)) b.0)
           refl b.1),
     )
 
 pub returns : goal.returns
 returns c =
-    let b = begun c.loop-field.reader.offset {r = Ok c.in-ok-field.field-0} {s = Ok None} c.loop-field.invariant.0 (ap Ok c.in-default.is) c.in-ok-field.ensures.found in
+    let b = begun c.loop-field.reader.offset {r = Ok c.in_ok-field.field-0} {s = Ok None} c.loop-field.invariant.0 (ap Ok c.in_default.is) c.in_ok-field.ensures.found in
     leads_end c.loop-field.invariant.1 b

@@ -11,22 +11,22 @@ from_sized m n s h = let t = eq-eqb m n s in cc
 pub loop-i-init : goal.loop-i-init
 loop-i-init g c = filling_start g.E.Entry.size g.E.Entry.said c.args.count c.args.fields.now c.args.table.now c.requires.long c.requires.places
 
-pub split-at-requires : goal.split-at-requires
-split-at-requires g c = omega (arith, filling_long _ _ _ _ _ c.loop-i.invariant c.loop-i-test.true)
+pub split_at-requires : goal.split_at-requires
+split_at-requires g c = omega (arith, filling_long _ _ _ _ _ c.loop-i.invariant c.loop-i-test.true)
 
-pub split-at-requires-in-loop-i : goal.split-at-requires-in-loop-i
-split-at-requires-in-loop-i g c = omega (arith, filling_long _ _ _ _ _ c.loop-i.invariant c.loop-i-test.true)
+pub split_at-requires-in-loop-i : goal.split_at-requires-in-loop-i
+split_at-requires-in-loop-i g c = omega (arith, filling_long _ _ _ _ _ c.loop-i.invariant c.loop-i-test.true)
 
 pub loop-i-preserved : goal.loop-i-preserved
 loop-i-preserved g c =
     let size : ℕ = g.E.Entry.size in
     let rest : List ℕ = c.loop-i.rest.now in
-    let front : c.split-at-in-loop-i.result.0.now ≡ take size (drop 3 rest) =
-    c.split-at-in-loop-i.ensures.front ∙ ap (λ n. take n c.split-at.result.1.now) c.body-len.ensures ∙ ap (take size) c.split-at.ensures.back in
-    let back : c.split-at-in-loop-i.result.1.now ≡ drop size (drop 3 rest) =
-    c.split-at-in-loop-i.ensures.back ∙ ap (λ n. drop n c.split-at.result.1.now) c.body-len.ensures ∙ ap (drop size) c.split-at.ensures.back in
+    let front : c.split_at-in-loop-i.result.0.now ≡ take size (drop 3 rest) =
+    c.split_at-in-loop-i.ensures.front ∙ ap (λ n. take n c.split_at.result.1.now) c.body_len.ensures ∙ ap (take size) c.split_at.ensures.back in
+    let back : c.split_at-in-loop-i.result.1.now ≡ drop size (drop 3 rest) =
+    c.split_at-in-loop-i.ensures.back ∙ ap (λ n. drop n c.split_at.result.1.now) c.body_len.ensures ∙ ap (drop size) c.split_at.ensures.back in
     let read : c.in-Ok.entry ≡ g.E.Entry.said (take size (drop 3 rest)) =
-    from_sized (length c.split-at-in-loop-i.result.0.now) size (omega (arith, c.split-at-in-loop-i.ensures.front-len)) c.in-Ok.ensures
+    from_sized (length c.split_at-in-loop-i.result.0.now) size (omega (arith, c.split_at-in-loop-i.ensures.front_len)) c.in-Ok.ensures
     ∙ ap g.E.Entry.said front in
     subst (λ r. Filling size g.E.Entry.said c.args.count c.args.fields.now c.args.table.now (c.loop-i.i + 1) r (set c.loop-i.table c.loop-i.i c.in-Ok.entry)) (sym back)
     (subst (λ e. Filling size g.E.Entry.said c.args.count c.args.fields.now c.args.table.now (c.loop-i.i + 1) (drop size (drop 3 rest)) (set c.loop-i.table c.loop-i.i e)) (sym read)

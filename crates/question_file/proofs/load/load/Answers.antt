@@ -21,52 +21,52 @@ left : {E : Type 0} (part : Contents → List E) (r : Result Contents Fault) (d 
 left part (Ok q) d table h = absurd (let z : ◌≡◌ {A = ℕ} 0 1 = cc in omega arith)
 left part (Err e) d table h = refl
 
-pub returns-in-err-counts : goal.returns-in-err-counts
-returns-in-err-counts c =
-    let p = err_from_is_err_and c.from-residual.result c.from-residual.ensures.1 in
+pub returns-in_err-counts : goal.returns-in_err-counts
+returns-in_err-counts c =
+    let p = err_from_is_err_and c.from_residual.result c.from_residual.ensures.1 in
     let room = room_of c.args.differences.now c.args.equalities.now in
-    let h = c.in-err-counts.ensures in
+    let h = c.in_err-counts.ensures in
     record {
       counts = p.1 ∙ ap Err p.2 ∙ h;
       differences = left (λ q. q.differences) (checked room c.args.file.now) _ c.args.differences.now h;
       equalities = left (λ q. q.equalities) (checked room c.args.file.now) _ c.args.equalities.now h;
-      undoing_writing = undoing_writing room c.args.file.now (bytes c.args.file.now c.type-inv.file);
+      undoes_writing = undoing_writing room c.args.file.now (bytes c.args.file.now c.type_inv.file);
     }
 
-pub slice-bounds-fill-count : goal.slice-bounds-fill-count
-slice-bounds-fill-count c = (accepted (room_of c.args.differences.now c.args.equalities.now) c.args.file.now c.in-ok-counts.counts (bytes c.args.file.now c.type-inv.file) c.in-ok-counts.ensures).differences_start
+pub slice_bounds-fill-count : goal.slice_bounds-fill-count
+slice_bounds-fill-count c = (accepted (room_of c.args.differences.now c.args.equalities.now) c.args.file.now c.in_ok-counts.counts (bytes c.args.file.now c.type_inv.file) c.in_ok-counts.ensures).differences_start
 
-pub slice-bounds-fill-start : goal.slice-bounds-fill-start
-slice-bounds-fill-start c = let h = (accepted (room_of c.args.differences.now c.args.equalities.now) c.args.file.now c.in-ok-counts.counts (bytes c.args.file.now c.type-inv.file) c.in-ok-counts.ensures).differences_start in search rules
+pub slice_bounds-fill-start : goal.slice_bounds-fill-start
+slice_bounds-fill-start c = let h = (accepted (room_of c.args.differences.now c.args.equalities.now) c.args.file.now c.in_ok-counts.counts (bytes c.args.file.now c.type_inv.file) c.in_ok-counts.ensures).differences_start in search rules
 
 pub fill-requires : goal.fill-requires
 fill-requires c =
-    let a = accepted (room_of c.args.differences.now c.args.equalities.now) c.args.file.now c.in-ok-counts.counts (bytes c.args.file.now c.type-inv.file) c.in-ok-counts.ensures in
+    let a = accepted (room_of c.args.differences.now c.args.equalities.now) c.args.file.now c.in_ok-counts.counts (bytes c.args.file.now c.type_inv.file) c.in_ok-counts.ensures in
     record { long = a.differences_long; places = a.difference_places }
 
-pub overflow-mul-behind : goal.overflow-mul-behind
-overflow-mul-behind c = let h = (accepted (room_of c.args.differences.now c.args.equalities.now) c.args.file.now c.in-ok-counts.counts (bytes c.args.file.now c.type-inv.file) c.in-ok-counts.ensures).few in search rules
+pub overflow_mul-behind : goal.overflow_mul-behind
+overflow_mul-behind c = let h = (accepted (room_of c.args.differences.now c.args.equalities.now) c.args.file.now c.in_ok-counts.counts (bytes c.args.file.now c.type_inv.file) c.in_ok-counts.ensures).few in search rules
 
-pub overflow-add-behind : goal.overflow-add-behind
-overflow-add-behind c = let h = (accepted (room_of c.args.differences.now c.args.equalities.now) c.args.file.now c.in-ok-counts.counts (bytes c.args.file.now c.type-inv.file) c.in-ok-counts.ensures).few in search rules
+pub overflow_add-behind : goal.overflow_add-behind
+overflow_add-behind c = let h = (accepted (room_of c.args.differences.now c.args.equalities.now) c.args.file.now c.in_ok-counts.counts (bytes c.args.file.now c.type_inv.file) c.in_ok-counts.ensures).few in search rules
 
-pub slice-bounds-fill-count-2 : goal.slice-bounds-fill-count-2
-slice-bounds-fill-count-2 c = (accepted (room_of c.args.differences.now c.args.equalities.now) c.args.file.now c.in-ok-counts.counts (bytes c.args.file.now c.type-inv.file) c.in-ok-counts.ensures).equalities_start
+pub slice_bounds-fill-count-2 : goal.slice_bounds-fill-count-2
+slice_bounds-fill-count-2 c = (accepted (room_of c.args.differences.now c.args.equalities.now) c.args.file.now c.in_ok-counts.counts (bytes c.args.file.now c.type_inv.file) c.in_ok-counts.ensures).equalities_start
 
-pub slice-bounds-fill-start-2 : goal.slice-bounds-fill-start-2
-slice-bounds-fill-start-2 c = let h = (accepted (room_of c.args.differences.now c.args.equalities.now) c.args.file.now c.in-ok-counts.counts (bytes c.args.file.now c.type-inv.file) c.in-ok-counts.ensures).equalities_start in search rules
+pub slice_bounds-fill-start-2 : goal.slice_bounds-fill-start-2
+slice_bounds-fill-start-2 c = let h = (accepted (room_of c.args.differences.now c.args.equalities.now) c.args.file.now c.in_ok-counts.counts (bytes c.args.file.now c.type_inv.file) c.in_ok-counts.ensures).equalities_start in search rules
 
 pub fill-requires-2 : goal.fill-requires-2
 fill-requires-2 c =
-    let a = accepted (room_of c.args.differences.now c.args.equalities.now) c.args.file.now c.in-ok-counts.counts (bytes c.args.file.now c.type-inv.file) c.in-ok-counts.ensures in
+    let a = accepted (room_of c.args.differences.now c.args.equalities.now) c.args.file.now c.in_ok-counts.counts (bytes c.args.file.now c.type_inv.file) c.in_ok-counts.ensures in
     record { long = a.equalities_long; places = a.equality_places }
 
 pub returns : goal.returns
 returns c =
-    let a = accepted (room_of c.args.differences.now c.args.equalities.now) c.args.file.now c.in-ok-counts.counts (bytes c.args.file.now c.type-inv.file) c.in-ok-counts.ensures in
+    let a = accepted (room_of c.args.differences.now c.args.equalities.now) c.args.file.now c.in_ok-counts.counts (bytes c.args.file.now c.type_inv.file) c.in_ok-counts.ensures in
     record {
-      counts = c.in-ok-counts.ensures;
+      counts = c.in_ok-counts.ensures;
       differences = c.fill.ensures ∙ a.differences_filled c.args.differences.now;
       equalities = c.fill-2.ensures ∙ a.equalities_filled c.args.equalities.now;
-      undoing_writing = undoing_writing _ c.args.file.now (bytes c.args.file.now c.type-inv.file);
+      undoes_writing = undoing_writing _ c.args.file.now (bytes c.args.file.now c.type_inv.file);
     }

@@ -3,19 +3,14 @@ use Rattle.theory.specs.Meaning.{different}
 use Rattle.theory.proofs.Retreats.{retreat_answer_map, retreated_map, different_retreated}
 use Rattle.switches.proofs.SwitchesTheory.retreat.Goals as goal
 
-pub invariant-of-self : goal.invariant-of-self
-invariant-of-self c =
-    let before = vec_items c.args.self.now.stack.records in (
-      c.args.self.now.few,
-      (
-        omega arith,
-        (
-          subst (λ codes. different c.args.self.now.count codes ≡ true) (sym (retreated_map (λ s. s.code) before c.args.count c.retreat.ensures.dropped))
-              (different_retreated c.args.self.now.count (map (λ s. s.code) before) c.args.count c.args.self.now.apart),
-          tt,
-        ),
-      ),
-    )
+pub invariant_of-self : goal.invariant_of-self
+invariant_of-self c =
+    let before = vec_items c.args.self.now.stack.records in record {
+      few = c.args.self.now.few;
+      places = omega arith;
+      apart = subst (λ codes. different c.args.self.now.count codes ≡ true) (sym (retreated_map (λ s. s.code) before c.args.count c.retreat.ensures.dropped))
+              (different_retreated c.args.self.now.count (map (λ s. s.code) before) c.args.count c.args.self.now.apart);
+    }
 
 pub returns : goal.returns
 returns c =

@@ -15,20 +15,15 @@ codes_push xs code e = ap (map (λ s. s.code)) e ∙ map_push (λ s. s.code) xs 
 
 pub push-requires : goal.push-requires
 push-requires c =
-    omega (arith, set_room c.args.self.now.count (codes c.args.self.now) c.args.code (length c.args.conflict.now) c.args.self.now.apart (sym c.in-ok-check.ensures), length-map (vec_items c.args.self.now.stack.records) (λ s. s.code))
+    omega (arith, set_room c.args.self.now.count (codes c.args.self.now) c.args.code (length c.args.conflict.now) c.args.self.now.apart (sym c.in_ok-check.ensures), length-map (vec_items c.args.self.now.stack.records) (λ s. s.code))
 
-pub invariant-of-self-2 : goal.invariant-of-self-2
-invariant-of-self-2 c = (
-  c.args.self.now.few,
-  (
-    omega arith,
-    (
-      subst (λ xs. different c.args.self.now.count xs ≡ true) (sym (codes_push (vec_items c.args.self.now.stack.records) c.args.code c.push.ensures.items))
-          (set_apart c.args.self.now.count (codes c.args.self.now) c.args.code (length c.args.conflict.now) c.args.self.now.apart (sym c.in-ok-check.ensures)),
-      tt,
-    ),
-  ),
-)
+pub invariant_of-self-2 : goal.invariant_of-self-2
+invariant_of-self-2 c = record {
+      few = c.args.self.now.few;
+      places = omega arith;
+      apart = subst (λ xs. different c.args.self.now.count xs ≡ true) (sym (codes_push (vec_items c.args.self.now.stack.records) c.args.code c.push.ensures.items))
+          (set_apart c.args.self.now.count (codes c.args.self.now) c.args.code (length c.args.conflict.now) c.args.self.now.apart (sym c.in_ok-check.ensures));
+    }
 
 pub returns : goal.returns
 returns c =
@@ -37,7 +32,7 @@ returns c =
       same = refl;
       by =
           record {
-            reason = (set_accepted c.args.self.now.count (codes c.args.self.now) c.args.code (length c.args.conflict.now) (sym c.in-ok-check.ensures)).0;
+            reason = (set_accepted c.args.self.now.count (codes c.args.self.now) c.args.code (length c.args.conflict.now) (sym c.in_ok-check.ensures)).0;
             grown = codes_push (vec_items c.args.self.now.stack.records) c.args.code c.push.ensures.items;
             list_same = refl;
           };

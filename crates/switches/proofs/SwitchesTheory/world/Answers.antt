@@ -4,7 +4,7 @@ use Rattle.theory.specs.Meaning.{has}
 use Rattle.switches.specs.Switching.{switch_of}
 use Rattle.switches.proofs.Fronts.{fronted, fronted_more}
 use Rattle.switches.proofs.SwitchesTheory.world.Goals as goal
-use Rattle.switches.proofs.SwitchesTheory.world.Goals.{then-has-code, else-has-code}
+use Rattle.switches.proofs.SwitchesTheory.world.Goals.{then-has_code, else-has_code}
 
 -- the turn writes whether the plain literal is set
 more : (codes : List ℕ) (before list : List ℤ) (i : ℕ) (is_set : Bool) {n : ℤ} → is_set ≡ has codes (2 * i) → n ≡ cond is_set (pos 1) (pos 0)
@@ -14,9 +14,9 @@ more codes before list i is_set e is l inv =
 
 pub loop-i-preserved : goal.loop-i-preserved
 loop-i-preserved c =
-    elim c.if-has-code.branch [
-      | then-has-code w ↦ more (map (λ s. s.code) (vec_items c.args.self.now.stack.records)) c.args.list.now c.loop-i.list c.loop-i.i true w.if-has-code.ensures w.list-is (omega arith) c.loop-i.invariant
-      | else-has-code w ↦ more (map (λ s. s.code) (vec_items c.args.self.now.stack.records)) c.args.list.now c.loop-i.list c.loop-i.i false w.if-has-code.ensures w.list-is (omega arith) c.loop-i.invariant
+    elim c.if-has_code.branch [
+      | then-has_code w ↦ more (map (λ s. s.code) (vec_items c.args.self.now.stack.records)) c.args.list.now c.loop-i.list c.loop-i.i true w.if-has_code.ensures w.list-is (omega arith) c.loop-i.invariant
+      | else-has_code w ↦ more (map (λ s. s.code) (vec_items c.args.self.now.stack.records)) c.args.list.now c.loop-i.list c.loop-i.i false w.if-has_code.ensures w.list-is (omega arith) c.loop-i.invariant
     ]
 
 pub returns : goal.returns

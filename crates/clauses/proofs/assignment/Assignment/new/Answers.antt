@@ -5,17 +5,12 @@ use Rattle.clauses.specs.Standing.{flags_of}
 use Rattle.clauses.proofs.Flags.{flags_none}
 use Rattle.clauses.proofs.assignment.Assignment.new.Goals as goal
 
-pub invariant-of-result : goal.invariant-of-result
-invariant-of-result c =
-    let entries = c.in-ok-entries.ensures in (
-      entries.capacity,
-      (
-        ap (λ es. different c.args.atoms (codes_of (reverse es))) entries.items,
-        (
-          c.in-ok-flags.ensures.items-if-clones-equal (λ _ same. same)
+pub invariant_of-result : goal.invariant_of-result
+invariant_of-result c =
+    let entries = c.in_ok-entries.ensures in record {
+      room = entries.capacity;
+      apart = ap (λ es. different c.args.atoms (codes_of (reverse es))) entries.items;
+      flagged = c.in_ok-flags.ensures.items_if_clones_equal (λ _ same. same)
               ∙ flags_none c.args.atoms
-              ∙ sym (ap (λ es. flags_of c.args.atoms (codes_of (reverse es))) entries.items),
-          tt,
-        ),
-      ),
-    )
+              ∙ sym (ap (λ es. flags_of c.args.atoms (codes_of (reverse es))) entries.items);
+    }

@@ -72,7 +72,7 @@ returns g c =
     let q = c.args.self.now in
     let q₁ = c.loop-entry.self in
     let q₂ = c.undo.new.self in
-    let over = emptied (trail_of q₁) (trail_of q₂) c.undo.result c.undo.ensures.answer (ap is_some c.in-default.is) c.undo.ensures.dropped in
+    let over = emptied (trail_of q₁) (trail_of q₂) c.undo.result c.undo.ensures.answer (ap is_some c.in_default.is) c.undo.ensures.dropped in
     record {
       linked = c.undo.ensures.linked;
       same = same_then g.T.Theory c.loop-entry.invariant.1 c.undo.ensures.same;

@@ -19,5 +19,5 @@ returns g c =
     record {
       asked = search rules;
       same = search rules;
-      by = ends (meaning_of g.T.Theory q) (clauses_of q) (trail_of q) c.in-default.field-0 q.stage _ c.in-default.ensures (search rules);
+      by = ends (meaning_of g.T.Theory q) (clauses_of q) (trail_of q) c.in_default.field-0 q.stage _ c.in_default.ensures (search rules);
     }

@@ -9,22 +9,22 @@ use Rattle.question.proofs.asked.Question.perform_all.Goals as goal
 
 pub loop-call-init : goal.loop-call-init
 loop-call-init g c =
-    let made = c.in-ok-answers.ensures in
-    (c.requires.asked, refl, none_yet (meaning_of g.T.Theory c.args.self.now) (vec_items c.in-ok-answers.answers) (state_of c.args.self.now) made.items c.requires.opened, made.len, made.capacity)
+    let made = c.in_ok-answers.ensures in
+    (c.requires.asked, refl, none_yet (meaning_of g.T.Theory c.args.self.now) (vec_items c.in_ok-answers.answers) (state_of c.args.self.now) made.items c.requires.opened, made.len, made.capacity)
 
 pub perform-requires : goal.perform-requires
 perform-requires g c = c.loop-call.invariant.0
 
-pub returns-in-err-perform : goal.returns-in-err-perform
-returns-in-err-perform g c =
+pub returns-in_err-perform : goal.returns-in_err-perform
+returns-in_err-perform g c =
     record {
       asked = c.perform.ensures.asked;
       same = c.perform.ensures.same ∙ c.loop-call.invariant.1;
-      by = IfOk-from_err c.from-residual-in-err-perform.result _ c.from-residual-in-err-perform.ensures.0;
+      by = IfOk-from_err c.from_residual-in_err-perform.result _ c.from_residual-in_err-perform.ensures.0;
     }
 
-pub push-reserved-requires : goal.push-reserved-requires
-push-reserved-requires g c = omega (arith, c.loop-call.invariant.3, c.loop-call.invariant.4, c.loop-call-test.true)
+pub push_reserved-requires : goal.push_reserved-requires
+push_reserved-requires g c = omega (arith, c.loop-call.invariant.3, c.loop-call.invariant.4, c.loop-call-test.true)
 
 pub loop-call-preserved : goal.loop-call-preserved
 loop-call-preserved g c =
@@ -35,15 +35,15 @@ loop-call-preserved g c =
     let i = c.loop-call.call-index in
     let calls = c.args.calls.now in
     let call = c.call-item.result in
-    let answer = c.in-ok-perform.field-0 in
+    let answer = c.in_ok-perform.field-0 in
     let next : take (i + 1) calls ≡ take i calls ++ (call ∷ []) = take_more calls i call c.loop-call-test.true ∙ ap (λ x. take i calls ++ (x ∷ [])) (sym c.call-item.is) in
     let by : Performed m (state_of q₁) (call_of m.variables call) answer (state_of q₂) =
-    subst (λ (n : Meaning). Performed n (state_of q₁) (call_of n.variables call) answer (state_of q₂)) c.loop-call.invariant.1 c.in-ok-perform.ensures.by in (
+    subst (λ (n : Meaning). Performed n (state_of q₁) (call_of n.variables call) answer (state_of q₂)) c.loop-call.invariant.1 c.in_ok-perform.ensures.by in (
       c.perform.ensures.asked,
       c.perform.ensures.same ∙ c.loop-call.invariant.1,
-      one_more m (take i calls) (take (i + 1) calls) (vec_items c.loop-call.answers) (vec_items c.push-reserved.new.self) (state_of q₁) (state_of q₂) call answer next c.push-reserved.ensures.items c.loop-call.invariant.2 by,
-      c.push-reserved.ensures.len ∙ ap (λ n. n + 1) c.loop-call.invariant.3,
-      omega (arith, c.loop-call.invariant.4, c.push-reserved.ensures.capacity),
+      one_more m (take i calls) (take (i + 1) calls) (vec_items c.loop-call.answers) (vec_items c.push_reserved.new.self) (state_of q₁) (state_of q₂) call answer next c.push_reserved.ensures.items c.loop-call.invariant.2 by,
+      c.push_reserved.ensures.len ∙ ap (λ n. n + 1) c.loop-call.invariant.3,
+      omega (arith, c.loop-call.invariant.4, c.push_reserved.ensures.capacity),
     )
 
 pub returns : goal.returns

@@ -6,17 +6,17 @@ use Rattle.question.specs.Asked.{clauses_of, trail_of, meaning_of, state_of}
 use Rattle.question.proofs.Staged.{refuses, posts, below_after}
 use Rattle.question.proofs.asked.Question.post.Goals as goal
 
-pub returns-in-err-next-stage : goal.returns-in-err-next-stage
-returns-in-err-next-stage g c =
+pub returns-in_err-next_stage : goal.returns-in_err-next_stage
+returns-in_err-next_stage g c =
     let q = c.args.self.now in
     let m = meaning_of g.T.Theory q in
-    let p = err_from_is_err_and c.from-residual.result c.from-residual.ensures.1 in
+    let p = err_from_is_err_and c.from_residual.result c.from_residual.ensures.1 in
     record {
       asked = c.requires;
       same = refl;
       by =
           subst (λ r. PostBy m (state_of q) c.args.clause.now r (state_of q)) (sym (p.1 ∙ ap Err p.2))
-          (refuses m (clauses_of q) (trail_of q) q.stage (Post c.args.clause.now) _ c.in-err-next-stage.ensures);
+          (refuses m (clauses_of q) (trail_of q) q.stage (Post c.args.clause.now) _ c.in_err-next_stage.ensures);
     }
 
 pub returns : goal.returns
@@ -41,5 +41,5 @@ returns g c =
             resting = c.requires.resting;
           };
       same = refl;
-      by = posts m (clauses_of q) (trail_of q) c.in-ok-next-stage.field-0 q.stage k _ reason c.post.result c.in-ok-next-stage.ensures is c.post.ensures.answer c.post.ensures.posted;
+      by = posts m (clauses_of q) (trail_of q) c.in_ok-next_stage.field-0 q.stage k _ reason c.post.result c.in_ok-next_stage.ensures is c.post.ensures.answer c.post.ensures.posted;
     }

@@ -10,12 +10,12 @@ pub returns-in-Ok : goal.returns-in-Ok
 returns-in-Ok g c =
     let q = c.args.self.now in
     let m = meaning_of g.T.Theory q in
-    let list = c.as-mut-slice.result.now in
-    let numbers = c.in-ok-numbers.numbers in
+    let list = c.as_mut_slice.result.now in
+    let numbers = c.in_ok-numbers.numbers in
     let world = g.T.Theory.given_world q.theory in
     let r = c.in-Ok.ensures in
-    let places : vec_len numbers ≡ m.variables = c.in-ok-numbers.ensures.len ∙ c.sizes.ensures.variables in
-    let long : length list ≡ m.variables = ap length c.as-mut-slice.ensures.value ∙ sym numbers.ok.0 ∙ places in
+    let places : vec_len numbers ≡ m.variables = c.in_ok-numbers.ensures.len ∙ c.sizes.ensures.variables in
+    let long : length list ≡ m.variables = ap length c.as_mut_slice.ensures.value ∙ sym numbers.ok.0 ∙ places in
     let is = filled m.variables world list c.world-answer.new.list long r.written in
     let whole = (g.met.T.Theory.worldly q.theory c.requires.linked.theory_made).whole in
     let now : vec_items (with_items numbers c.world-answer.new.list) ≡ world = with_items_is numbers c.world-answer.new.list (ap length is ∙ whole ∙ sym places) ∙ is in

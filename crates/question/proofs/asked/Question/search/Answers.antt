@@ -23,6 +23,6 @@ returns g c =
       asked = c.conclude.ensures.asked;
       same = c.conclude.ensures.same;
       by =
-          searches (meaning_of g.T.Theory q) (clauses_of q) (trail_of q) c.in-default.field-0 q.stage c.args.grant (count_of out) (verdict_of out) (trail_of q₁) (state_of q₁) c.in-default.ensures c.requires.resting
+          searches (meaning_of g.T.Theory q) (clauses_of q) (trail_of q) c.in_default.field-0 q.stage c.args.grant (count_of out) (verdict_of out) (trail_of q₁) (state_of q₁) c.in_default.ensures c.requires.resting
           c.conclude.ensures.runs c.conclude.ensures.state;
     }

@@ -9,15 +9,15 @@ use Rattle.question.proofs.Links.{linked_from, pushed_entry, trail_has_world}
 use Rattle.question.proofs.Sets.{refused_clash, accepted_grown}
 use Rattle.question.proofs.asked.Question.try_set.Goals as goal
 
-pub returns-then-is-err : goal.returns-then-is-err
-returns-then-is-err g c =
+pub returns-then-is_err : goal.returns-then-is_err
+returns-then-is_err g c =
     let q = c.args.self.now in
     let m = meaning_of g.T.Theory q in
     let xs = vec_items q.assignment.entries in
-    let room : m.atoms ≤ length c.as-mut-slice.result.now =
-    omega (arith, ap length c.as-mut-slice.ensures.value, q.conflict.ok.0, c.requires.linked.conflict_places) in
-    let clash = refused_clash m xs (g.T.Theory.stack q.theory) c.requires.linked.same_stack c.args.code c.as-mut-slice.result.now c.requires.unset room _ _ _ c.set.result
-    (sym c.if-is-err.ensures.value) c.set.ensures.by in
+    let room : m.atoms ≤ length c.as_mut_slice.result.now =
+    omega (arith, ap length c.as_mut_slice.ensures.value, q.conflict.ok.0, c.requires.linked.conflict_places) in
+    let clash = refused_clash m xs (g.T.Theory.stack q.theory) c.requires.linked.same_stack c.args.code c.as_mut_slice.result.now c.requires.unset room _ _ _ c.set.result
+    (sym c.if-is_err.ensures.value) c.set.ensures.by in
     record {
       linked = linked_from g.T.Theory q _ c.requires.linked c.set.ensures.kept c.set.ensures.same refl clash.stack_same refl refl;
       same = record { meaning_same = c.set.ensures.same; stage_same = refl; clauses_same = refl };
@@ -28,7 +28,7 @@ pub unreachable-requires : goal.unreachable-requires
 unreachable-requires g c =
     let q = c.args.self.now in
     let m = meaning_of g.T.Theory q in
-    c.in-default.not-Ok tt (c.push.ensures.answer ∙ cond-true _ _ _ (pushed_entry m.atoms q.assignment.atoms (trail_of q) c.args.code c.requires.linked.same_atoms c.requires.unset))
+    c.in_default.not-Ok tt (c.push.ensures.answer ∙ cond-true _ _ _ (pushed_entry m.atoms q.assignment.atoms (trail_of q) c.args.code c.requires.linked.same_atoms c.requires.unset))
 
 pub returns : goal.returns
 returns g c =
@@ -36,10 +36,10 @@ returns g c =
     let m = meaning_of g.T.Theory q in
     let xs = vec_items q.assignment.entries in
     let e : Entry = record { code = c.args.code; mark = c.args.mark } in
-    let room : m.atoms ≤ length c.as-mut-slice.result.now =
-    omega (arith, ap length c.as-mut-slice.ensures.value, q.conflict.ok.0, c.requires.linked.conflict_places) in
-    let grown = accepted_grown m xs (g.T.Theory.stack q.theory) c.requires.linked.same_stack c.args.code c.as-mut-slice.result.now c.requires.unset room _ _ _ c.set.result
-    (sym c.if-is-err.ensures.value) c.set.ensures.by in
+    let room : m.atoms ≤ length c.as_mut_slice.result.now =
+    omega (arith, ap length c.as_mut_slice.ensures.value, q.conflict.ok.0, c.requires.linked.conflict_places) in
+    let grown = accepted_grown m xs (g.T.Theory.stack q.theory) c.requires.linked.same_stack c.args.code c.as_mut_slice.result.now c.requires.unset room _ _ _ c.set.result
+    (sym c.if-is_err.ensures.value) c.set.ensures.by in
     let pushed : vec_items c.push.new.self.entries ≡ xs ++ (e ∷ []) =
     c.push.ensures.entries ∙ cond-true _ _ _ (pushed_entry m.atoms q.assignment.atoms (trail_of q) c.args.code c.requires.linked.same_atoms c.requires.unset) in
     let trail : reverse (vec_items c.push.new.self.entries) ≡ e ∷ reverse xs = ap reverse pushed ∙ reverse-append xs (e ∷ []) in

@@ -4,15 +4,15 @@ use Rattle.question_file.specs.Fields.{Begins, size}
 use Rattle.question_file.proofs.Reading.{from_rest}
 use Rattle.question_file.proofs.fields.Reader.next_field.Goals as goal
 
-pub returns-in-err-field : goal.returns-in-err-field
-returns-in-err-field c =
+pub returns-in_err-field : goal.returns-in_err-field
+returns-in_err-field c =
     let file : List ℕ = c.args.self.now.file.now in
     let offset : ℕ = c.args.self.now.offset in
-    let p = err_from_is_err_and c.from-residual.result c.from-residual.ensures.1 in
-    let e : c.from-residual.result ≡ Err c.in-err-field.field-0.0 = p.1 ∙ ap Err p.2 in
+    let p = err_from_is_err_and c.from_residual.result c.from_residual.ensures.1 in
+    let e : c.from_residual.result ≡ Err c.in_err-field.field-0.0 = p.1 ∙ ap Err p.2 in
     record {
       same = refl;
-      found = subst (λ r. Begins (drop offset file) offset r) (sym e) (from_rest file offset (Err c.in-err-field.field-0.0) c.in-err-field.ensures);
+      found = subst (λ r. Begins (drop offset file) offset r) (sym e) (from_rest file offset (Err c.in_err-field.field-0.0) c.in_err-field.ensures);
       moves = omega (arith, ap size e);
     }
 
@@ -24,7 +24,7 @@ returns-in-Some c =
       same = refl;
       found =
           from_rest file offset (Ok (Some c.in-Some.field))
-          (subst (λ f. Begins (take (length file - offset) (drop offset file)) offset (Ok f)) c.in-Some.is c.in-ok-field.ensures);
+          (subst (λ f. Begins (take (length file - offset) (drop offset file)) offset (Ok f)) c.in-Some.is c.in_ok-field.ensures);
       moves = refl;
     }
 
@@ -36,6 +36,6 @@ returns-in-None c =
       same = refl;
       found =
           from_rest file offset (Ok None)
-          (subst (λ f. Begins (take (length file - offset) (drop offset file)) offset (Ok f)) c.in-None.is c.in-ok-field.ensures);
+          (subst (λ f. Begins (take (length file - offset) (drop offset file)) offset (Ok f)) c.in-None.is c.in_ok-field.ensures);
       moves = omega arith;
     }

@@ -20,6 +20,8 @@ use Rattle.theory.proofs.Drawn.{all_codes, all_records, drawn_push, drawn_take}
 use Rattle.theory.proofs.Drawn as drawn
 use Rattle.difference.specs.Differences.{entry_limit, entry_at, limit_of, limit_holds, difference_meaning, codes_of, limits_of}
 
+use Rattle.difference.specs.Laws.{holds_met, lawful}
+
 -- Entries that fit give limits that fit.
 
 fit_at : (variables : ℕ) (table : List DifferenceEntry) (atom : ℕ) → all_fit (difference_fits variables) table ≡ true → atom < length table
@@ -42,64 +44,6 @@ limit_for_fits variables e code h =
     (Fits variables)
     (λ _. record { a_below = f.0; b_below = f.1; low = omega (arith, ints, f.2); high = omega (arith, ints, f.3) })
     (λ _. record { a_below = f.1; b_below = f.0; low = omega (arith, ints, f.3); high = omega (arith, ints, f.2) })
-
--- What a limit says is what its literal means.
-
-le_true : (x y : ℤ) → x ≤ℤ y → int_le x y ≡ true
-le_true x y h = grind (arith, ints)
-
-true_le : (x y : ℤ) → int_le x y ≡ true → x ≤ℤ y
-true_le x y h = grind (arith, ints)
-
--- the opposite of x - y ≤ k is y - x ≤ -k - 1
-opposite_limit : (x y k : ℤ) → int_le (y -ℤ x) (neg_ℤ k -ℤ pos 1) ≡ not (int_le (x -ℤ y) k)
-opposite_limit x y k = grind (arith, ints)
-
-met_holds : (l : Limit) (world : List ℤ) → Met world l → limit_holds l world ≡ true
-met_holds l world m = le_true (at world l.a -ℤ at world l.b) l.weight m
-
-holds_met : (l : Limit) (world : List ℤ) → limit_holds l world ≡ true → Met world l
-holds_met l world h = true_le (at world l.a -ℤ at world l.b) l.weight h
-
--- the literals of an atom, by the entry that they are of
-plain_limit : (e : DifferenceEntry) (code : ℕ) → code % 2 ≡ 0 → entry_limit e code ≡ record { code = code; a = e.a; b = e.b; weight = e.limit }
-plain_limit e code h =
-    ap
-    (λ t. cond t
-    (record { code = code; a = e.a; b = e.b; weight = e.limit })
-    (record { code = code; a = e.b; b = e.a; weight = neg_ℤ e.limit -ℤ pos 1 }))
-    (eq-eqb (code % 2) 0 h)
-
-flipped_limit : (e : DifferenceEntry) (code : ℕ) → code % 2 ≡ 1
-    → entry_limit e code ≡ record { code = code; a = e.b; b = e.a; weight = neg_ℤ e.limit -ℤ pos 1 }
-flipped_limit e code h =
-    ap
-    (λ t. cond t
-    (record { code = code; a = e.a; b = e.b; weight = e.limit })
-    (record { code = code; a = e.b; b = e.a; weight = neg_ℤ e.limit -ℤ pos 1 }))
-    (ne_eqb (code % 2) 0 (λ z. omega arith))
-
-one_of_two : (table : List DifferenceEntry) (a : ℕ) (world : List ℤ)
-    → limit_holds (limit_of table (2 * a + 1)) world ≡ not (limit_holds (limit_of table (2 * a)) world)
-one_of_two table a world =
-    let e = entry_at table a in
-    let odd : atom_of (2 * a + 1) ≡ a = omega arith in
-    let even : atom_of (2 * a) ≡ a = omega arith in
-    ap (λ n. limit_holds (entry_limit (entry_at table n) (2 * a + 1)) world) odd
-    ∙ ap (λ l. limit_holds l world) (flipped_limit e (2 * a + 1) (omega arith))
-    ∙ opposite_limit (at world e.a) (at world e.b) e.limit
-    ∙ ap (λ l. not (limit_holds l world)) (sym (plain_limit e (2 * a) (omega arith)))
-    ∙ ap (λ n. not (limit_holds (entry_limit (entry_at table n) (2 * a)) world)) (sym even)
-
-pub lawful : (variables : ℕ) (table : List DifferenceEntry) → all_entries_fit difference_fits variables table ≡ true → Lawful (difference_meaning variables table)
-lawful variables table h =
-    let p = and_parts (nat_le variables most) (nat_le (length table) most && all_fit (difference_fits variables) table) h in
-    let q = and_parts (nat_le (length table) most) (all_fit (difference_fits variables) table) p.1 in
-    record {
-      few_atoms = leb-true (length table) most q.0;
-      few_variables = leb-true variables most p.0;
-      one_of_two = λ a _ world _. one_of_two table a world;
-    }
 
 code_of : (e : DifferenceEntry) (code : ℕ) → (entry_limit e code).code ≡ code
 code_of e code =
@@ -151,12 +95,6 @@ module _ {variables : ℕ} {table : List DifferenceEntry} {limits : List Limit} 
       (All-weaker (λ code. limit_holds (limit_of table code) world ≡ true) (λ code. Met world (limit_of table code))
       (λ code. holds_met (limit_of table code) world) (codes_of limits) h)
 
-  pub all_hold : (world : List ℤ) → All (Met world) limits → AllHold (difference_meaning variables table) (codes_of limits) world
-  all_hold world m =
-      All-weaker (λ code. Met world (limit_of table code)) (λ code. limit_holds (limit_of table code) world ≡ true)
-      (λ code. met_holds (limit_of table code) world) (codes_of limits)
-      (all_codes (λ (l : Limit). l.code) (limit_of table) limits s.drawn (Met world) m)
-
   -- one literal more
   pub sound_push : (code : ℕ) → names (codes_of limits) (atom_of code) ≡ false → atom_of code < length table
       → Sound variables table (limits ++ (limit_of table code ∷ []))
@@ -184,12 +122,6 @@ module _ {variables : ℕ} {table : List DifferenceEntry} {limits : List Limit} 
       let met = All-take (Met times) k limits (latest_when_still limits variables h).met in
       let fit = All-take (Fits variables) k limits limits_fit in
       met_still (take k limits) (latest (take k limits) variables) (latest_from_met (take k limits) variables fit times met).met
-
-  -- the latest times are a world of the set literals
-  pub worldly : moves limits (latest limits variables) ≡ false
-      → WorldOf (difference_meaning variables table) (codes_of limits) (latest limits variables)
-  worldly h =
-      record { whole = length_latest limits variables; all_hold = all_hold (latest limits variables) (latest_when_still limits variables h).met }
 
   -- where the set limits and a new one have no times, the literals have no world
   pub no_world : (code : ℕ) → NoTimes (limits ++ (limit_of table code ∷ [])) variables
