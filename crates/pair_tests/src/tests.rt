@@ -22,7 +22,6 @@ fn limits_beside_equalities(rt: HostRuntime) -> Result<(), Fail> {
     let equalities = equality(heap, 3, &E, 3)?;
     let mut pair = Pair::new(limits, equalities, places(heap, 6)?);
     run(
-        &rt,
         heap,
         &mut pair,
         &[
@@ -63,7 +62,8 @@ fn limits_beside_equalities(rt: HostRuntime) -> Result<(), Fail> {
             Step::World(&[0, 0, 0, 0, 1, 2]),
             Step::RetreatTooFar(1),
         ],
-    )
+    )?;
+    Ok(())
 }
 
 #[test]
@@ -74,7 +74,6 @@ fn pair_in_a_pair(rt: HostRuntime) -> Result<(), Fail> {
     let inner = Pair::new(equalities, switches(heap, 2, 2)?, places(heap, 5)?);
     let mut pair = Pair::new(limits, inner, places(heap, 8)?);
     run(
-        &rt,
         heap,
         &mut pair,
         &[
@@ -100,7 +99,8 @@ fn pair_in_a_pair(rt: HostRuntime) -> Result<(), Fail> {
             Step::Retreat(2),
             Step::World(&[0, 0, 0, 0, 1, 2, 0, 0]),
         ],
-    )
+    )?;
+    Ok(())
 }
 
 #[test]
@@ -117,13 +117,14 @@ fn most_atoms_and_variables(rt: HostRuntime) -> Result<(), Fail> {
         switches(heap, 0, 0)?,
         places(heap, 512)?,
     );
-    run(&rt, heap, &mut beside_none, &most)?;
+    run(heap, &mut beside_none, &most)?;
     let mut halves = Pair::new(
         switches(heap, 256, 256)?,
         switches(heap, 256, 256)?,
         places(heap, 512)?,
     );
-    run(&rt, heap, &mut halves, &most)
+    run(heap, &mut halves, &most)?;
+    Ok(())
 }
 
 #[test]
@@ -140,36 +141,31 @@ fn pairs_that_show_nothing(rt: HostRuntime) -> Result<(), Fail> {
         switches(heap, 257, 257)?,
         places(heap, 513)?,
     );
-    run(&rt, heap, &mut atoms, &nothing)?;
+    run(heap, &mut atoms, &nothing)?;
     let mut variables = Pair::new(
         difference(heap, 512, &[], 0)?,
         switches(heap, 1, 1)?,
         places(heap, 1)?,
     );
-    run(&rt, heap, &mut variables, &nothing)?;
+    run(heap, &mut variables, &nothing)?;
     let mut few_places = Pair::new(
         switches(heap, 2, 2)?,
         switches(heap, 2, 2)?,
         places(heap, 3)?,
     );
-    run(&rt, heap, &mut few_places, &nothing)
+    run(heap, &mut few_places, &nothing)?;
+    Ok(())
 }
 
 #[test]
 fn made_and_taken_apart(rt: HostRuntime) -> Result<(), Fail> {
     let heap = rt.alloc();
     let mut limits = difference(heap, 3, &T, 3)?;
-    run(
-        &rt,
-        heap,
-        &mut limits,
-        &[Step::Set(2), Step::World(&[0, -3, 0])],
-    )?;
+    run(heap, &mut limits, &[Step::Set(2), Step::World(&[0, -3, 0])])?;
     let equalities = equality(heap, 3, &E, 3)?;
     // what was set before is dropped
     let mut pair = Pair::new(limits, equalities, places(heap, 6)?);
     run(
-        &rt,
         heap,
         &mut pair,
         &[
@@ -183,7 +179,6 @@ fn made_and_taken_apart(rt: HostRuntime) -> Result<(), Fail> {
     // what is set stays set
     let (mut limits, mut equalities) = pair.into_parts();
     run(
-        &rt,
         heap,
         &mut limits,
         &[
@@ -193,7 +188,6 @@ fn made_and_taken_apart(rt: HostRuntime) -> Result<(), Fail> {
         ],
     )?;
     run(
-        &rt,
         heap,
         &mut equalities,
         &[
@@ -201,5 +195,6 @@ fn made_and_taken_apart(rt: HostRuntime) -> Result<(), Fail> {
             Step::Clash(5, &[5, 2, 0]),
             Step::RetreatTooFar(3),
         ],
-    )
+    )?;
+    Ok(())
 }

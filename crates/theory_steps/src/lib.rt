@@ -9,8 +9,6 @@ use joining::Join;
 use refusals::Refusal;
 use relaxing::Limit;
 use std::alloc::{AllocError, Global};
-use std::process::Abort;
-use std::test::Fail;
 use switches::{Setting, Switches};
 use tables::{DifferenceEntry, EqualityEntry};
 use theory::{Sizes, Theory};
@@ -41,70 +39,68 @@ const SPARE_CODE: u16 = 999;
 
 const SPARE_NUMBER: i64 = 999;
 
-// Whether the list has the front, and spare entries behind.
-fn check_codes(rt: &impl Abort, list: &[u16], front: &[u16]) -> Result<(), Fail> {
-    for i in 0..list.len() {
-        let expected = front.get(i).copied().unwrap_or(SPARE_CODE);
-        assert_eq!(rt; list[i], expected);
-    }
-    Ok(())
+// Where a theory answers otherwise than expected, or the memory to ask it in is not to be had.
+#[derive(Debug, Drop)]
+pub enum Unexpected {
+    Memory(AllocError),
+    // the step of this number, counted from 0
+    Step(usize),
 }
 
-fn check_numbers(rt: &impl Abort, list: &[i64], front: &[i64]) -> Result<(), Fail> {
-    for i in 0..list.len() {
-        let expected = front.get(i).copied().unwrap_or(SPARE_NUMBER);
-        assert_eq!(rt; list[i], expected);
+impl From<AllocError> for Unexpected {
+    fn from(error: AllocError) -> Self {
+        Unexpected::Memory(error)
     }
-    Ok(())
+}
+
+// Whether the list has the front, and the spare entry everywhere behind it.
+fn fronted<X: Copy + PartialEq>(list: &[X], front: &[X], spare: X) -> bool {
+    for (i, entry) in list.iter().enumerate() {
+        if *entry != front.get(i).copied().unwrap_or(spare) {
+            return false;
+        }
+    }
+    true
 }
 
 fn set<T: Theory>(
-    rt: &impl Abort,
     heap: Global,
     theory: &mut T,
     code: u16,
     places: usize,
     expected: Result<(), Refusal>,
     conflict: &[u16],
-) -> Result<(), Fail>
+) -> Result<bool, AllocError>
     requires { T.Theory.made theory.old }
     ensures { T.Theory.made theory.new }
 {
     let mut list = vec![in heap; SPARE_CODE; places]?;
     let answer = theory.set(code, list.as_mut_slice());
-    assert_eq!(rt; answer, expected);
-    check_codes(rt, list.as_slice(), conflict)
+    Ok(answer == expected && fronted(list.as_slice(), conflict, SPARE_CODE))
 }
 
 fn world<T: Theory>(
-    rt: &impl Abort,
     heap: Global,
     theory: &T,
     places: usize,
     expected: Result<(), Refusal>,
     numbers: &[i64],
-) -> Result<(), Fail>
+) -> Result<bool, AllocError>
     requires { T.Theory.made theory.now }
 {
     let mut list = vec![in heap; SPARE_NUMBER; places]?;
     let answer = theory.world(list.as_mut_slice());
-    assert_eq!(rt; answer, expected);
-    check_numbers(rt, list.as_slice(), numbers)
+    Ok(answer == expected && fronted(list.as_slice(), numbers, SPARE_NUMBER))
 }
 
-fn perform<T: Theory>(
-    rt: &impl Abort,
-    heap: Global,
-    theory: &mut T,
-    step: &Step,
-) -> Result<(), Fail>
+// Whether the step is answered as it should be.
+fn perform<T: Theory>(heap: Global, theory: &mut T, step: &Step) -> Result<bool, AllocError>
     requires { T.Theory.made theory.old }
     ensures { T.Theory.made theory.new }
 {
     match step {
-        Step::Set(code) => set(rt, heap, theory, *code, PLACES, Ok(()), &[]),
+        Step::Set(code) => set(heap, theory, *code, PLACES, Ok(()), &[]),
         Step::Clash(code, conflict) => set(
-            rt,
             heap,
             theory,
             *code,
@@ -112,49 +108,36 @@ fn perform<T: Theory>(
             Err(Refusal::Clash(conflict.len())),
             conflict,
         ),
-        Step::Refused(code, places, why) => set(rt, heap, theory, *code, *places, Err(*why), &[]),
-        Step::Retreat(count) => {
-            assert_eq!(rt; theory.retreat(*count), Ok(()));
-            Ok(())
-        },
-        Step::RetreatTooFar(count) => {
-            assert_eq!(rt; theory.retreat(*count), Err(Refusal::MoreThanSet));
-            Ok(())
-        },
-        Step::World(numbers) => world(rt, heap, theory, PLACES, Ok(()), numbers),
+        Step::Refused(code, places, why) => set(heap, theory, *code, *places, Err(*why), &[]),
+        Step::Retreat(count) => Ok(theory.retreat(*count) == Ok(())),
+        Step::RetreatTooFar(count) => Ok(theory.retreat(*count) == Err(Refusal::MoreThanSet)),
+        Step::World(numbers) => world(heap, theory, PLACES, Ok(()), numbers),
         Step::WorldTooLong(places) => world(
-            rt,
             heap,
             theory,
             *places,
             Err(Refusal::WorldListShort),
             &[],
         ),
-        Step::Sizes(atoms, variables) => {
-            assert_eq!(rt;
-                theory.sizes(),
-                Sizes {
+        Step::Sizes(atoms, variables) => Ok(
+            theory.sizes()
+                == Sizes {
                     atoms: *atoms,
                     variables: *variables,
-                }
-            );
-            Ok(())
-        },
+                },
+        ),
     }
 }
 
-// Asks all of it, in turn.
-pub fn run<T: Theory>(
-    rt: &impl Abort,
-    heap: Global,
-    theory: &mut T,
-    steps: &[Step],
-) -> Result<(), Fail>
+// Asks all of it, in turn, up to the first step that is answered otherwise.
+pub fn run<T: Theory>(heap: Global, theory: &mut T, steps: &[Step]) -> Result<(), Unexpected>
     requires { T.Theory.made theory.old }
     ensures { T.Theory.made theory.new }
 {
-    for step in steps {
-        perform(rt, heap, theory, step)?;
+    for (number, step) in steps.iter().enumerate() {
+        if !perform(heap, theory, step)? {
+            return Err(Unexpected::Step(number));
+        }
     }
     Ok(())
 }

@@ -10,7 +10,6 @@ fn limits_in_a_cycle(rt: HostRuntime) -> Result<(), Fail> {
     let heap = rt.alloc();
     let mut theory = difference(heap, 3, &T, 3)?;
     run(
-        &rt,
         heap,
         &mut theory,
         &[
@@ -36,7 +35,8 @@ fn limits_in_a_cycle(rt: HostRuntime) -> Result<(), Fail> {
             Step::World(&[0, 0, 0]),
             Step::RetreatTooFar(1),
         ],
-    )
+    )?;
+    Ok(())
 }
 
 #[test]
@@ -45,7 +45,6 @@ fn limits_at_the_edge(rt: HostRuntime) -> Result<(), Fail> {
     // a cycle whose sum is 0 is no clash
     let mut cycle = difference(heap, 3, &[(0, 1, -2), (1, 2, -3), (2, 0, 5)], 3)?;
     run(
-        &rt,
         heap,
         &mut cycle,
         &[
@@ -58,22 +57,15 @@ fn limits_at_the_edge(rt: HostRuntime) -> Result<(), Fail> {
     // a limit of a time on itself
     let mut itself = difference(heap, 1, &[(0, 0, -1)], 1)?;
     run(
-        &rt,
         heap,
         &mut itself,
         &[Step::Clash(0, &[0]), Step::Set(1), Step::World(&[0])],
     )?;
     // the opposite of a - b <= 0 is b - a <= -1
     let mut opposite = difference(heap, 2, &[(0, 1, 0)], 1)?;
-    run(
-        &rt,
-        heap,
-        &mut opposite,
-        &[Step::Set(1), Step::World(&[0, -1])],
-    )?;
+    run(heap, &mut opposite, &[Step::Set(1), Step::World(&[0, -1])])?;
     let mut widest = difference(heap, 2, &[(0, 1, -1_000_000), (1, 0, 1_000_000)], 2)?;
     run(
-        &rt,
         heap,
         &mut widest,
         &[
@@ -88,7 +80,8 @@ fn limits_at_the_edge(rt: HostRuntime) -> Result<(), Fail> {
             Step::Set(3),
             Step::World(&[-1_000_001, 0]),
         ],
-    )
+    )?;
+    Ok(())
 }
 
 #[test]
@@ -100,21 +93,22 @@ fn tables_that_show_nothing(rt: HostRuntime) -> Result<(), Fail> {
         Step::Refused(0, 8, Refusal::NoSuchAtom),
     ];
     let mut places = difference(heap, 3, &T, 2)?;
-    run(&rt, heap, &mut places, &nothing)?;
+    run(heap, &mut places, &nothing)?;
     let mut variables = difference(heap, 513, &T, 3)?;
-    run(&rt, heap, &mut variables, &nothing)?;
+    run(heap, &mut variables, &nothing)?;
     let mut variable = difference(heap, 2, &T, 3)?;
-    run(&rt, heap, &mut variable, &nothing)?;
+    run(heap, &mut variable, &nothing)?;
     let mut limit = difference(heap, 3, &[(0, 1, 1_000_001)], 3)?;
-    run(&rt, heap, &mut limit, &nothing)?;
+    run(heap, &mut limit, &nothing)?;
     let mut joins = equality(heap, 2, &[(0, 2)], 1)?;
-    run(&rt, heap, &mut joins, &nothing)?;
+    run(heap, &mut joins, &nothing)?;
     let mut joins_places = equality(heap, 3, &[(0, 2)], 0)?;
-    run(&rt, heap, &mut joins_places, &nothing)?;
+    run(heap, &mut joins_places, &nothing)?;
     let mut many = switches(heap, 513, 600)?;
-    run(&rt, heap, &mut many, &nothing)?;
+    run(heap, &mut many, &nothing)?;
     let mut few_places = switches(heap, 2, 1)?;
-    run(&rt, heap, &mut few_places, &nothing)
+    run(heap, &mut few_places, &nothing)?;
+    Ok(())
 }
 
 #[test]
@@ -122,7 +116,6 @@ fn equalities(rt: HostRuntime) -> Result<(), Fail> {
     let heap = rt.alloc();
     let mut theory = equality(heap, 4, &[(0, 1), (1, 2), (0, 2), (3, 3)], 4)?;
     run(
-        &rt,
         heap,
         &mut theory,
         &[
@@ -150,11 +143,11 @@ fn equalities(rt: HostRuntime) -> Result<(), Fail> {
     )?;
     let mut cycle = equality(heap, 3, &[(0, 1), (1, 2), (0, 2)], 3)?;
     run(
-        &rt,
         heap,
         &mut cycle,
         &[Step::Set(0), Step::Set(2), Step::Clash(5, &[5, 0, 2])],
-    )
+    )?;
+    Ok(())
 }
 
 #[test]
@@ -162,7 +155,6 @@ fn plain_switches(rt: HostRuntime) -> Result<(), Fail> {
     let heap = rt.alloc();
     let mut theory = switches(heap, 3, 3)?;
     run(
-        &rt,
         heap,
         &mut theory,
         &[
@@ -181,5 +173,6 @@ fn plain_switches(rt: HostRuntime) -> Result<(), Fail> {
             Step::RetreatTooFar(2),
             Step::WorldTooLong(2),
         ],
-    )
+    )?;
+    Ok(())
 }

@@ -1,4 +1,4 @@
 use Rattle.theory_steps.proofs.run.Given as goal
 
-abbrev pub invariant-loop-step : goal.invariant-loop-step
-invariant-loop-step g l = g.T.Theory.made l.theory
+abbrev pub invariant-loop-number : goal.invariant-loop-number
+invariant-loop-number g l = g.T.Theory.made l.theory
