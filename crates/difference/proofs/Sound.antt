@@ -1,25 +1,24 @@
 -- The limits of a table and of its set literals: they fit, they say what the literals mean, and they stay settled.
-use Rattle.std.specs.Prelude.{◌≡◌, ℕ, zero, suc, ◌+◌, ◌-◌, ◌*◌, ◌%◌, ◌<◌, ◌≤◌, true, false, cond, not, ◌&&◌, List, [], ◌∷◌, ◌++◌, length, take, ℤ, pos, negsuc, ◌-ℤ◌, neg_ℤ, ◌≤ℤ◌, ◌==◌, int_le, nat_le, nat_lt, refl}
+use Rattle.std.specs.Prelude.{◌≡◌, ℕ, zero, suc, ◌-◌, ◌%◌, ◌<◌, ◌≤◌, true, false, ◌&&◌, List, [], ◌∷◌, ◌++◌, length, take, ℤ, pos, negsuc, ◌-ℤ◌, neg_ℤ, ◌≤ℤ◌, ◌==◌, nat_le, nat_lt, refl}
 use Rattle.std.proofs.Common.{sym, ap, ◌∙◌, arith}
 use Rattle.std.specs.List.{AllByRecursion as All}
 use Rattle.std.proofs.ByRecursion.{All-push, All-take, All-weaker}
 use Rattle.std.proofs.lemmas.List.{take-map, length-map}
 use Rattle.std.proofs.lemmas.Int.{ints}
-use Rattle.std.proofs.lemmas.Bool.{and_parts, leb-true, eq-eqb, ne_eqb, cond_both}
+use Rattle.std.proofs.lemmas.Bool.{and_parts, cond_both}
 use Rattle.std.proofs.lemmas.Bool.Decides.{nat_tests}
 use Rattle.tables.specs.declared.DifferenceEntry.{DifferenceEntry}
 use Rattle.tables.specs.Entries.{most, difference_fits, all_entries_fit, all_fit}
 use Rattle.relaxing.specs.declared.Limit.{Limit}
-use Rattle.relaxing.specs.Limits.{at, Met, Fits, NoTimes, moves, latest}
-use Rattle.relaxing.proofs.Finding.{latest_from_met, latest_when_still, length_latest}
+use Rattle.relaxing.specs.Limits.{Met, Fits, NoTimes, moves, latest}
+use Rattle.relaxing.proofs.Finding.{latest_from_met, latest_when_still}
 use Rattle.relaxing.proofs.Passes.{met_still}
 use Rattle.theory.specs.Calls.{retreated}
-use Rattle.theory.specs.Meaning.{Lawful, WorldOf, AllHold, NoWorld, atom_of, names, different}
+use Rattle.theory.specs.Meaning.{AllHold, NoWorld, atom_of, names, different}
 use Rattle.theory.proofs.Apart.{different_push, different_take, different_few, different_below}
 use Rattle.theory.proofs.Drawn.{all_codes, all_records, drawn_push, drawn_take}
 use Rattle.theory.proofs.Drawn as drawn
 use Rattle.difference.specs.Differences.{entry_limit, entry_at, limit_of, limit_holds, difference_meaning, codes_of, limits_of}
-
 use Rattle.difference.specs.Laws.{holds_met, lawful}
 
 -- Entries that fit give limits that fit.

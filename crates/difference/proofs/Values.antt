@@ -8,7 +8,7 @@ use Rattle.relaxing.specs.Limits.{Met, Latest, NoTimes, pass, latest}
 use Rattle.relaxing.proofs.Finding.{latest_when_still, length_latest}
 use Rattle.std.specs.List.{AllByRecursion as All}
 use Rattle.theory.specs.Calls.{set_ground, ground_answer, Gained, Clashed}
-use Rattle.theory.specs.Meaning.{atom_of, names, different}
+use Rattle.theory.specs.Meaning.{atom_of, names}
 use Rattle.theory.proofs.Apart.{different_room}
 use Rattle.theory.proofs.Conflicts.{set_clashed}
 use Rattle.theory.proofs.Grounds.{set_accepted}

@@ -5,15 +5,15 @@ use Rattle.std.proofs.lemmas.List.{take-map}
 use Rattle.std.proofs.lemmas.Bool.{and_parts, leb-true, cond_both}
 use Rattle.std.proofs.lemmas.Bool.Decides.{nat_tests}
 use Rattle.std.specs.List.{AllByRecursion as All}
-use Rattle.joining.proofs.Labelled.{length_labelled, holds_labelled, agrees_from_world}
+use Rattle.joining.proofs.Labelled.{holds_labelled, agrees_from_world}
 use Rattle.joining.specs.declared.Join.{Join}
 use Rattle.joining.specs.Joins.{join_holds, Fits, NoWorld as NoJoined, labelled, agrees}
 use Rattle.tables.specs.declared.EqualityEntry.{EqualityEntry}
 use Rattle.tables.specs.Entries.{most, all_fit, all_entries_fit, equality_fits}
 use Rattle.theory.proofs.Apart.{different_push, different_take, different_below}
-use Rattle.theory.proofs.Drawn.{codes_push, drawn_push, drawn_take, all_records, all_codes}
+use Rattle.theory.proofs.Drawn.{codes_push, drawn_push, drawn_take, all_records}
 use Rattle.theory.specs.Calls.{retreated}
-use Rattle.theory.specs.Meaning.{WorldOf, NoWorld, atom_of, names, different}
+use Rattle.theory.specs.Meaning.{NoWorld, atom_of, names, different}
 use Rattle.equality.specs.Equalities.{entry_join, entry_at, join_of, equality_meaning, codes_of, joins_of}
 
 join_for_fits : (variables : ℕ) (e : EqualityEntry) (code : ℕ) → equality_fits variables e ≡ true → Fits variables (entry_join e code)

@@ -1,6 +1,6 @@
 -- What the equality theory means: the plain literal of entry (a, b) says that a and b are equal, its opposite that they
 -- differ.
-use Rattle.std.specs.Prelude.{ℕ, ◌%◌, Bool, cond, ◌&&◌, List, [], map, length, ℤ, ◌==◌, nat_le, slice_index_or}
+use Rattle.std.specs.Prelude.{ℕ, ◌%◌, Bool, cond, ◌&&◌, List, [], map, length, ◌==◌, nat_le, slice_index_or}
 use Rattle.tables.specs.declared.EqualityEntry.{EqualityEntry}
 use Rattle.tables.specs.Entries.{equality_fits, all_entries_fit}
 use Rattle.joining.specs.declared.Join.{Join}

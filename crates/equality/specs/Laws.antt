@@ -1,6 +1,6 @@
 -- What the ghost fields of a value show of the interface's laws: its literals are of different atoms, and the labels of
 -- its joins are a world of them.
-use Rattle.std.specs.Prelude.{◌≡◌, ℕ, true, List, length}
+use Rattle.std.specs.Prelude.{◌≡◌, ℕ, true, List}
 use Rattle.std.proofs.Common.{subst}
 use Rattle.joining.proofs.Labelled.{length_labelled, holds_labelled}
 use Rattle.joining.specs.declared.Join.{Join}

@@ -1,12 +1,10 @@
 -- The link between a question's trail and its theory, as literals are set and taken off.
-use Rattle.std.proofs.Common.{◌≡◌, ℕ, ◌<◌, ◌≤◌, Bool, true, false, cond, not, ◌&&◌, ltb, List, [], ◌∷◌, ◌++◌, map, reverse, length, is_some, Some, None, Ok, Err, vec_items, vec_len, Option, Result, sym, refl, ap, ◌∙◌, subst, arith}
+use Rattle.std.proofs.Common.{◌≡◌, ℕ, ◌<◌, true, false, not, ltb, List, [], ◌∷◌, ◌++◌, map, reverse, length, is_some, Some, None, Ok, Err, vec_items, vec_len, Option, sym, refl, ap, ◌∙◌, subst, arith}
 use Rattle.std.proofs.lemmas.List.{reverse-append, reverse-reverse, map_push, length_push}
-use Rattle.std.proofs.lemmas.Bool.{and_from, lt-ltb, le-ltb, not_from_false, cond-true, cond-false, false≢true}
+use Rattle.std.proofs.lemmas.Bool.{and_from, lt-ltb, le-ltb, not_from_false, cond-false, false≢true}
 use Rattle.std.specs.List.{AllByRecursion as All}
-use Rattle.refusals.specs.declared.Refusal.{Refusal}
 use Rattle.refusals.specs.declared.Refusal.TheVariants.{MoreThanSet}
 use Rattle.clauses.specs.Standing.{can_set, newest, older}
-use Rattle.clauses.specs.declared.assignment.Assignment.{Assignment}
 use Rattle.steps.specs.Calls.{are_atoms_below}
 use Rattle.steps.specs.Clauses.{Clause}
 use Rattle.steps.specs.Steps.{Trail, codes_of}
@@ -14,7 +12,7 @@ use Rattle.steps.specs.declared.Entry.{Entry}
 use Rattle.steps.proofs.Judged.{none≢some}
 use Rattle.steps.proofs.Sound.{different_tail}
 use Rattle.theory.specs.Calls.{retreat_answer, retreated}
-use Rattle.theory.specs.Meaning.{Meaning, Lawful, WorldOf, atom_of, names, different, HasWorld}
+use Rattle.theory.specs.Meaning.{Meaning, WorldOf, atom_of, names, different, HasWorld}
 use Rattle.theory.specs.declared.Theory.{Ghosts}
 use Rattle.question.specs.Asked.{Linked, Same, clauses_of, trail_of, meaning_of}
 use Rattle.question.specs.declared.asked.Question.{Question}

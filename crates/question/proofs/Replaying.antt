@@ -1,7 +1,7 @@
 -- Calls made one after another, as a history.
-use Rattle.std.proofs.Common.{◌≡◌, ℕ, List, [], ◌∷◌, ◌++◌, map, reverse, length, drop, ℤ, Some, sym, refl, ap, ◌∙◌, subst, arith}
+use Rattle.std.proofs.Common.{◌≡◌, ℕ, List, [], ◌∷◌, ◌++◌, map, reverse, length, drop, ℤ, Some, sym, ap, ◌∙◌, subst, arith}
 use Rattle.std.proofs.lemmas.List.{map_push, reverse-append, append-nil, drop_all}
-use Rattle.steps.specs.Calls.{Call, Event, State, open_with, Does, History, opening, next}
+use Rattle.steps.specs.Calls.{Call, Event, State, open_with, History, opening, next}
 use Rattle.steps.proofs.Every.{promises}
 use Rattle.theory.specs.Meaning.{Meaning, Lawful}
 use Rattle.question.specs.Replays.{call_of, event_of, Performed, TellsAll, Answered}

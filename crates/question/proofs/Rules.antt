@@ -1,9 +1,9 @@
 -- The rules, as the parts of the search carry them out.
-use Rattle.std.proofs.Common.{◌≡◌, ℕ, suc, ◌+◌, ◌*◌, ◌<◌, ◌≤◌, Bool, true, false, not, ◌&&◌, ltb, List, [], ◌∷◌, MatchBool, sym, refl, ap, ◌∙◌, subst, arith}
+use Rattle.std.proofs.Common.{◌≡◌, ℕ, suc, ◌+◌, ◌*◌, Bool, true, false, not, ◌&&◌, ltb, List, [], ◌∷◌, MatchBool, sym, ap, ◌∙◌, subst}
 use Rattle.std.proofs.lemmas.Bool.{and_parts, and_from, lt-ltb, ltb-true, not-true, not_from_false}
 use Rattle.clauses.specs.Standing.{can_set}
 use Rattle.steps.specs.Clauses.{Clause, opposite, LowestUnset}
-use Rattle.steps.specs.Steps.{Trail, Spot, looking, backing, codes_of, entry, Step, decide, decide_clash, flip, flip_clash, drop_flipped, drop_forced, Steps, start_here, then, Next}
+use Rattle.steps.specs.Steps.{Trail, looking, backing, codes_of, entry, Step, decide, decide_clash, flip, flip_clash, drop_flipped, drop_forced, Steps, start_here, then}
 use Rattle.steps.specs.declared.Entry.{Entry}
 use Rattle.steps.specs.declared.Mark.{Mark}
 use Rattle.steps.specs.declared.Mark.TheVariants.{Decided, Flipped, Forced}
@@ -11,7 +11,6 @@ use Rattle.steps.proofs.Opposites.{opposite_plain, atom_opposite}
 use Rattle.steps.proofs.Sound.{Fresh, fresh_lowest, other_side}
 use Rattle.theory.specs.Meaning.{Meaning, Lawful, NoWorld, atom_of, names, HasWorld}
 use Rattle.question.specs.Turns.{Added, Rejected, OtherSide, Dropped, BackedUp, Exhausted, DecidedBy}
-use Rattle.question.proofs.Turning.{steps_append, one_step}
 
 marked : (e : Entry) (mark : Mark) → e.mark ≡ mark → e ≡ entry mark e.code
 marked e mark is = ap (λ m. entry m e.code) is

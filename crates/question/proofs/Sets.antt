@@ -1,15 +1,15 @@
 -- What the theory's answers say of the trail, whose literals are newest first.
-use Rattle.std.proofs.Common.{◌≡◌, ℕ, ◌+◌, ◌-◌, ◌<◌, ◌≤◌, Bool, true, false, cond, not, ◌&&◌, ◌||◌, eqb, ltb, leb, List, [], ◌∷◌, ◌++◌, map, reverse, length, take, ℤ, is_err, Some, None, Ok, Err, Option, Result, sym, refl, ap, ◌∙◌, subst, arith, MatchOption}
+use Rattle.std.proofs.Common.{◌≡◌, ℕ, ◌+◌, ◌≤◌, true, false, not, ◌||◌, eqb, ltb, leb, List, [], ◌∷◌, ◌++◌, map, reverse, length, take, ℤ, is_err, Some, None, Ok, Err, Option, Result, sym, refl, ap, ◌∙◌, subst, arith, MatchOption}
 use Rattle.std.proofs.ByRecursion.{All-push}
 use Rattle.std.proofs.lemmas.List.{reverse-append, reverse-reverse, map_push, length_push, take-append-le, take_all}
 use Rattle.std.proofs.lemmas.Bool.{and_parts, ltb-true, not-true, lt-leb, le-ltb, cond-false, false≢true}
 use Rattle.std.specs.List.{AllByRecursion as All}
 use Rattle.refusals.specs.Grounds.{clash_count}
 use Rattle.refusals.specs.declared.Refusal.{Refusal}
-use Rattle.steps.specs.Steps.{Trail, codes_of}
+use Rattle.steps.specs.Steps.{codes_of}
 use Rattle.steps.specs.declared.Entry.{Entry}
 use Rattle.steps.proofs.Judged.{none≢some}
-use Rattle.theory.specs.Calls.{set_ground, Picked, none, keep, skip, Conflict, Gained, Clashed, NotLookedAt, SetBy, retreat_answer, retreated}
+use Rattle.theory.specs.Calls.{set_ground, Picked, none, keep, skip, Conflict, Clashed, NotLookedAt, SetBy, retreated}
 use Rattle.theory.specs.Meaning.{Meaning, AllHold, WorldOf, NoWorld, atom_of, names, HasWorld}
 use Rattle.clauses.specs.Standing.{can_set}
 

@@ -9,7 +9,7 @@ use Rattle.steps.specs.Calls.{Call, Post, Search, Resume, World, End, Close, Ref
 use Rattle.steps.specs.Clauses.{Clause}
 use Rattle.steps.specs.Steps.{Trail, Spot, codes_of, Ends, found, paused, none, Runs}
 use Rattle.steps.specs.declared.Verdict.{Verdict}
-use Rattle.steps.specs.declared.Verdict.TheVariants.{Found, NoneExist, Paused}
+use Rattle.steps.specs.declared.Verdict.TheVariants.{NoneExist}
 use Rattle.steps.proofs.Every.{posted_below}
 use Rattle.theory.specs.Calls.{ground_answer, world_answer, world_written}
 use Rattle.theory.specs.Meaning.{Meaning, WorldOf}

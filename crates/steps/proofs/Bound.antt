@@ -1,15 +1,15 @@
 -- A search with its resumes counts at most 2^n - 1 decisions: what is left to decide falls with each.
-use Rattle.std.proofs.Common.{◌≡◌, ℕ, zero, suc, ◌+◌, ◌*◌, ◌<◌, ◌≤◌, true, List, [], ◌∷◌, sym, refl, ap, ◌∙◌, subst, arith}
+use Rattle.std.proofs.Common.{◌≡◌, ℕ, suc, ◌+◌, ◌*◌, ◌≤◌, true, List, [], ◌∷◌, ap, arith}
 use Rattle.std.specs.List.{AllByRecursion as All}
-use Rattle.theory.specs.Meaning.{Meaning, Lawful, names, different}
+use Rattle.theory.specs.Meaning.{Meaning, Lawful}
 use Rattle.steps.specs.Calls.{are_atoms_below}
 use Rattle.steps.specs.Clauses.{Clause, opposite, LowestUnset}
-use Rattle.steps.specs.Steps.{Trail, Spot, looking, backing, codes_of, entry, Step, fail, force, force_clash, decide, decide_clash, drop_flipped, drop_forced, flip, flip_clash, Steps, start_here, then}
+use Rattle.steps.specs.Steps.{Trail, Spot, looking, backing, codes_of, Step, fail, force, force_clash, decide, decide_clash, drop_flipped, drop_forced, flip, flip_clash, Steps, start_here, then}
 use Rattle.steps.specs.declared.Mark.{Mark}
 use Rattle.steps.specs.declared.Mark.TheVariants.{Decided, Flipped, Forced}
 use Rattle.steps.proofs.Judged.{first_due_facts}
 use Rattle.steps.proofs.Opposites.{atom_opposite}
-use Rattle.steps.proofs.Sound.{Sound, step_sound, steps_sound, trail_of, different_tail, fresh_lowest}
+use Rattle.steps.proofs.Sound.{Sound, steps_sound, fresh_lowest}
 use Rattle.steps.proofs.Unset.{unset, unset_push, unset_same, full}
 
 abbrev pub count_of : Spot → ℕ

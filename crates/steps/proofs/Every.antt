@@ -1,23 +1,22 @@
 -- What holds of every list of calls, from what every spot of a search keeps.
-use Rattle.std.proofs.Common.{◌≡◌, ℕ, suc, ◌+◌, ◌^◌, ◌<◌, ◌≤◌, Bool, true, false, cond, not, ltb, List, [], ◌∷◌, ◌++◌, length, replicate, ℤ, pos, Some, None, Option, sym, refl, ap, ◌∙◌, subst, inl, inr, ⊎_elim, arith}
+use Rattle.std.proofs.Common.{◌≡◌, ℕ, ◌+◌, ◌≤◌, true, not, List, [], ◌∷◌, ◌++◌, replicate, ℤ, pos, Some, None, sym, refl, ap, ◌∙◌, subst, inl, ⊎_elim, arith}
 use Rattle.std.proofs.ByRecursion.{All-push}
 use Rattle.std.proofs.lemmas.List.{length-replicate}
 use Rattle.std.proofs.lemmas.Bool.{cases_Bool, cond-true, not_from_false}
 use Rattle.std.specs.List.{AllByRecursion as All}
-use Rattle.refusals.specs.declared.Refusal.{Refusal}
 use Rattle.refusals.specs.declared.Refusal.TheVariants.{NoSuchAtom}
-use Rattle.theory.specs.Meaning.{Meaning, Lawful, WorldOf, different, HasWorld}
-use Rattle.steps.specs.Calls.{Event, Refused, Posted, Searched, Resumed, Read, Ended, Closed, State, open_with, paused_at, found_at, closed, are_atoms_below, atom_twice, post_ground, state_after, Does, refused, posted, searched, resumed, read, ended_paused, ended_found, closing, History, opening, next}
-use Rattle.steps.specs.Clauses.{Clause, AllSet, Satisfies, Unsatisfiable}
-use Rattle.steps.specs.Promises.{posted_so_far, spent, Satisfiable, VerdictRight, AnswerRight, AllRight, Promises}
-use Rattle.steps.specs.Steps.{Trail, Spot, looking, backing, codes_of, Quiet, Ends, found, paused, none, Runs}
+use Rattle.theory.specs.Meaning.{Meaning, Lawful, WorldOf}
+use Rattle.steps.specs.Calls.{Event, State, open_with, paused_at, found_at, closed, are_atoms_below, post_ground, state_after, Does, refused, posted, searched, resumed, read, ended_paused, ended_found, closing, History, opening, next}
+use Rattle.steps.specs.Clauses.{Clause, AllSet, Satisfies}
+use Rattle.steps.specs.Promises.{posted_so_far, spent, VerdictRight, AnswerRight, AllRight, Promises}
+use Rattle.steps.specs.Steps.{Trail, Spot, looking, codes_of, Quiet, Ends, found, paused, none, Runs}
 use Rattle.steps.specs.declared.Verdict.{Verdict}
 use Rattle.steps.specs.declared.Verdict.TheVariants.{Found, NoneExist, Paused}
 use Rattle.steps.proofs.Bound.{count_of, left_to_decide, one_left, steps_bound}
 use Rattle.steps.proofs.Judged.{all_alive_hold, none≢some}
 use Rattle.steps.proofs.Once.{one_outcome, counts_decisions}
 use Rattle.steps.proofs.Sound.{Sound, steps_sound}
-use Rattle.steps.proofs.Unset.{unset, unset_all, full, full_power}
+use Rattle.steps.proofs.Unset.{unset_all, full, full_power}
 
 abbrev rank : Verdict → ℕ
 rank Found = 0

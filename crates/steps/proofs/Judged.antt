@@ -1,12 +1,12 @@
 -- What dead clauses and due literals say of the worlds in which the set literals hold.
-use Rattle.std.proofs.Common.{◌≡◌, ℕ, ◌+◌, ◌-◌, ◌*◌, ◌/◌, ◌%◌, ◌<◌, Bool, true, false, cond, not, ◌&&◌, ◌||◌, eqb, ltb, ◌⊎◌, List, [], ◌∷◌, length, ℤ, Some, None, Option, sym, refl, ap, ◌∙◌, subst, inl, inr, ⊎_elim, arith}
-use Rattle.std.proofs.lemmas.Bool.{and_parts, or_parts, cond_both, eqb-true, eqb-false, ne_eqb, ltb-true, or_from, or_cases, or_left, or_right, and_cases, false≢true, not-true, not-false, not_from_true, not_from_false, both_ways, cases_Bool, cond-true, cond-false}
+use Rattle.std.proofs.Common.{◌≡◌, ℕ, ◌+◌, ◌-◌, ◌/◌, ◌%◌, ◌<◌, true, false, cond, not, ◌||◌, eqb, ltb, ◌⊎◌, List, [], ◌∷◌, length, ℤ, Some, None, Option, sym, refl, ap, ◌∙◌, subst, inl, inr, ⊎_elim, arith}
+use Rattle.std.proofs.lemmas.Bool.{and_parts, or_parts, cond_both, eqb-true, eqb-false, ne_eqb, ltb-true, or_from, or_cases, or_left, or_right, and_cases, false≢true, not-true, not-false, both_ways, cases_Bool, cond-true, cond-false}
 use Rattle.std.proofs.lemmas.Bool.Decides.{nat_tests}
 use Rattle.std.specs.List.{AllByRecursion as All}
-use Rattle.theory.specs.Meaning.{Meaning, Lawful, AllHold, atom_of, has, names, different}
+use Rattle.theory.specs.Meaning.{Meaning, Lawful, AllHold, atom_of, has, names}
 use Rattle.steps.specs.Calls.{are_atoms_below}
 use Rattle.steps.specs.Clauses.{Clause, opposite, is_true, is_false, dead, due, some_dead, or_else, first_due, holds_in, AllSet}
-use Rattle.steps.proofs.Opposites.{atom_opposite, opposite_plain, opposite_other, opposite_holds}
+use Rattle.steps.proofs.Opposites.{opposite_holds}
 
 -- a set literal names its atom
 pub has_names : (set : List ℕ) (l : ℕ) → has set l ≡ true → names set (atom_of l) ≡ true

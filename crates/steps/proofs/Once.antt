@@ -1,13 +1,12 @@
 -- The step list leaves no choice: a spot has at most one next spot, and none where it ends.
-use Rattle.std.proofs.Common.{◌≡◌, ℕ, suc, ◌+◌, ◌*◌, ◌<◌, Bool, true, false, ◌⊎◌, List, [], ◌∷◌, Some, None, Option, sym, refl, ap, ◌∙◌, subst, inl, inr, ⊎_elim, arith}
+use Rattle.std.proofs.Common.{◌≡◌, ℕ, suc, ◌+◌, ◌*◌, true, false, ◌⊎◌, List, ◌∷◌, sym, refl, ap, ◌∙◌, subst, inl, inr, ⊎_elim, arith}
 use Rattle.std.proofs.lemmas.Bool.{both_ways, cases_order}
 use Rattle.theory.specs.Meaning.{Meaning, NoWorld, names, HasWorld}
-use Rattle.steps.specs.Clauses.{Clause, opposite, some_dead, AllSet, LowestUnset}
+use Rattle.steps.specs.Clauses.{Clause, some_dead, AllSet, LowestUnset}
 use Rattle.steps.specs.Promises.{SameOutcome}
-use Rattle.steps.specs.Steps.{Trail, Spot, looking, backing, codes_of, entry, Due, Next, Quiet, Step, fail, force, force_clash, decide, decide_clash, drop_flipped, drop_forced, flip, flip_clash, Ends, found, paused, none, Steps, start_here, then, Runs, decisions}
-use Rattle.steps.specs.declared.Mark.TheVariants.{Decided, Flipped, Forced}
+use Rattle.steps.specs.Steps.{Trail, Spot, looking, codes_of, entry, Due, Next, Quiet, Step, fail, force, force_clash, decide, decide_clash, drop_flipped, drop_forced, flip, flip_clash, Ends, found, paused, none, Steps, start_here, then, Runs, decisions}
+use Rattle.steps.specs.declared.Mark.TheVariants.{Decided, Forced}
 use Rattle.steps.specs.declared.Verdict.{Verdict}
-use Rattle.steps.specs.declared.Verdict.TheVariants.{Found, NoneExist, Paused}
 use Rattle.steps.proofs.Bound.{count_of}
 use Rattle.steps.proofs.Judged.{none≢some, some_inj}
 

@@ -1,12 +1,12 @@
 -- What every spot of a search keeps: the trail has a world and names different atoms, and numbers that satisfy all
 -- clauses are still to be met on the trail or on the other side of one of its decisions.
-use Rattle.std.proofs.Common.{◌≡◌, ℕ, suc, ◌+◌, ◌*◌, ◌/◌, ◌<◌, Bool, true, false, not, ◌&&◌, ◌||◌, ltb, ◌⊎◌, List, [], ◌∷◌, length, ℤ, sym, refl, ap, ◌∙◌, subst, inl, inr, ⊎_elim, arith}
+use Rattle.std.proofs.Common.{◌≡◌, ℕ, ◌+◌, ◌*◌, ◌/◌, ◌<◌, true, false, not, ◌&&◌, ltb, ◌⊎◌, List, [], ◌∷◌, ℤ, sym, refl, ap, ◌∙◌, subst, inl, inr, ⊎_elim, arith}
 use Rattle.std.proofs.lemmas.Bool.{and_parts, and_from, both_ways, cases_Bool, lt-ltb, ltb-true, not-true, not_from_false}
 use Rattle.std.specs.List.{AllByRecursion as All}
-use Rattle.theory.specs.Meaning.{Meaning, Lawful, AllHold, WorldOf, NoWorld, atom_of, names, different, HasWorld}
+use Rattle.theory.specs.Meaning.{Meaning, Lawful, AllHold, NoWorld, atom_of, names, different, HasWorld}
 use Rattle.steps.specs.Calls.{are_atoms_below}
-use Rattle.steps.specs.Clauses.{Clause, opposite, LowestUnset, Satisfies, Unsatisfiable}
-use Rattle.steps.specs.Steps.{Trail, Spot, looking, backing, codes_of, entry, Due, Next, Quiet, Step, fail, force, force_clash, decide, decide_clash, drop_flipped, drop_forced, flip, flip_clash, Ends, found, paused, none, Steps, start_here, then, Runs}
+use Rattle.steps.specs.Clauses.{Clause, opposite, LowestUnset, Satisfies}
+use Rattle.steps.specs.Steps.{Trail, Spot, looking, backing, codes_of, Due, Step, fail, force, force_clash, decide, decide_clash, drop_flipped, drop_forced, flip, flip_clash, Steps, start_here, then}
 use Rattle.steps.specs.declared.Mark.{Mark}
 use Rattle.steps.specs.declared.Mark.TheVariants.{Decided, Flipped, Forced}
 use Rattle.steps.proofs.Judged.{none_dead_where_all_hold, first_due_holds, first_due_facts}

@@ -1,10 +1,10 @@
 -- Every search ends: each step lowers a weight of the spot.
-use Rattle.std.proofs.Common.{◌≡◌, ℕ, zero, suc, ◌+◌, ◌*◌, ◌<◌, ◌≤◌, true, List, [], ◌∷◌, sym, refl, ap, ◌∙◌, subst, arith}
+use Rattle.std.proofs.Common.{◌≡◌, ℕ, zero, suc, ◌+◌, ◌*◌, ◌<◌, ◌≤◌, true, List, [], ◌∷◌, ap, arith}
 use Rattle.std.specs.List.{AllByRecursion as All}
-use Rattle.theory.specs.Meaning.{Meaning, Lawful}
+use Rattle.theory.specs.Meaning.{Meaning}
 use Rattle.steps.specs.Calls.{are_atoms_below}
 use Rattle.steps.specs.Clauses.{Clause, opposite}
-use Rattle.steps.specs.Steps.{Trail, Spot, looking, backing, codes_of, entry, Step, fail, force, force_clash, decide, decide_clash, drop_flipped, drop_forced, flip, flip_clash}
+use Rattle.steps.specs.Steps.{Trail, Spot, looking, backing, codes_of, Step, fail, force, force_clash, decide, decide_clash, drop_flipped, drop_forced, flip, flip_clash}
 use Rattle.steps.specs.declared.Mark.{Mark}
 use Rattle.steps.specs.declared.Mark.TheVariants.{Decided, Flipped, Forced}
 use Rattle.steps.proofs.Judged.{first_due_facts}

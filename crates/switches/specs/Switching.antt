@@ -1,5 +1,5 @@
 -- What the switch theory means: each switch is an atom and a variable, and is on where its number is not 0.
-use Rattle.std.specs.Prelude.{ℕ, ◌*◌, ◌%◌, Bool, true, false, cond, not, ◌&&◌, List, [], map, ℤ, pos, negsuc, ◌==◌, nat_le, slice_index_or}
+use Rattle.std.specs.Prelude.{ℕ, ◌*◌, ◌%◌, Bool, false, cond, not, ◌&&◌, List, map, ℤ, pos, negsuc, ◌==◌, nat_le, slice_index_or}
 use Rattle.std.specs.List.{range_with_len}
 use Rattle.theory.specs.Meaning.{Meaning, atom_of, has}
 

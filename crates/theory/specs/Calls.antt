@@ -1,5 +1,5 @@
 -- What each call of a theory does to its meaning, whichever world and conflict it chooses to give.
-use Rattle.std.specs.Prelude.{◌≡◌, ℕ, ◌-◌, Bool, cond, List, [], ◌∷◌, ◌++◌, length, take, drop, ℤ, Some, None, Ok, Err, Option, Result, MatchOption, nat_le, nat_lt}
+use Rattle.std.specs.Prelude.{◌≡◌, ℕ, ◌-◌, cond, List, [], ◌∷◌, ◌++◌, length, take, drop, ℤ, Some, None, Ok, Err, Option, Result, MatchOption, nat_le, nat_lt}
 use Rattle.refusals.specs.Grounds.{clash_count}
 use Rattle.refusals.specs.declared.Refusal.{Refusal}
 use Rattle.refusals.specs.declared.Refusal.TheVariants.{NoSuchAtom, AtomSet, ConflictListShort, MoreThanSet, WorldListShort}

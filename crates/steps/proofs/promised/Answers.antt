@@ -1,6 +1,4 @@
-use Rattle.std.proofs.Common.{rules}
 use Rattle.steps.proofs.promised.Goals as goal
-use Rattle.steps.proofs.Weight.{step_lowers}
 use Rattle.steps.proofs.Every.{promises}
 
 -- src/lib.rt:30:1

@@ -1,10 +1,9 @@
-use Rattle.std.proofs.Common.{◌≡◌, ℕ, ◌≤◌, true, false, cond, List, ◌++◌, length, take, drop, ℤ, Ok, Err, vec_items, sym, refl, ap, ◌∙◌, subst, arith}
+use Rattle.std.proofs.Common.{◌++◌, length, take, drop, Ok, Err, vec_items, sym, ap, ◌∙◌, subst, arith}
 use Rattle.std.proofs.lemmas.List.{length-take-le}
 use Rattle.std.proofs.lemmas.Bool.{le-ltb, lt-ltb, cond-false, cond-true}
 use Rattle.std.specs.List.{AllByRecursion as All}
 use Rattle.refusals.specs.declared.Refusal.TheVariants.{WorldListShort}
 use Rattle.relaxing.specs.Limits.{Fits, latest}
-use Rattle.theory.specs.Calls.{world_answer, world_written}
 use Rattle.difference.specs.Laws.{lawful}
 use Rattle.difference.proofs.Sound.{limits_fit, few_limits}
 use Rattle.difference.proofs.Values.{kept_of, relaxed_times, latest_world}

@@ -1,6 +1,5 @@
-use Rattle.std.proofs.Common.{◌≡◌, true, List, vec_items, vec_len, sym, refl, ap, ◌∙◌, subst, arith}
+use Rattle.std.proofs.Common.{◌≡◌, true, List, vec_items, sym, refl, ◌∙◌, subst, arith}
 use Rattle.relaxing.specs.declared.Limit.{Limit}
-use Rattle.theory.specs.Calls.{retreated}
 use Rattle.theory.specs.Meaning.{different}
 use Rattle.theory.proofs.Retreats.{retreat_answer_map, retreated_map}
 use Rattle.difference.specs.Differences.{codes_of}

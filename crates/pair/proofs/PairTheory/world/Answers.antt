@@ -3,7 +3,6 @@ use Rattle.theory.specs.Calls.{world_written}
 use Rattle.theory.specs.declared.Sizes.{Sizes}
 use Rattle.pair.specs.Held.{meaning_of, world_of, places_of}
 use Rattle.pair.specs.Pairs.{pair_world, shown_if}
-
 use Rattle.pair.proofs.Values.{fits_if_variables_shown, together_worldly}
 use Rattle.pair.proofs.Writing.{long_answer, nothing_written, part_long, both_written}
 use Rattle.pair.proofs.PairTheory.world.Goals as goal

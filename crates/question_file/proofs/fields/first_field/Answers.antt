@@ -1,6 +1,6 @@
-use Rattle.std.proofs.Common.{◌≡◌, ℕ, ◌+◌, ◌-◌, ◌<◌, ◌≤◌, List, length, get_or, take, drop, sym, refl, ap, ◌∙◌, arith, length-drop, ltb-false}
+use Rattle.std.proofs.Common.{◌≡◌, ℕ, ◌+◌, List, length, get_or, take, drop, sym, refl, ap, ◌∙◌, arith, length-drop, ltb-false}
 use Rattle.std.proofs.lemmas.List.{take_rest, drop-drop}
-use Rattle.question_file.specs.Fields.{field_at, word, field}
+use Rattle.question_file.specs.Fields.{field}
 use Rattle.question_file.proofs.Reading.{at_whole}
 use Rattle.question_file.proofs.fields.first_field.Goals as goal
 

@@ -1,7 +1,6 @@
-use Rattle.std.proofs.Common.{◌≡◌, ℕ, ◌+◌, ◌*◌, ◌<◌, ◌≤◌, List, ◌++◌, length, get_or, take, drop, Ok, Err, Result, sym, refl, ap, ◌∙◌, subst, arith, w8, Fits, rules}
+use Rattle.std.proofs.Common.{◌≡◌, ℕ, ◌<◌, List, get_or, Ok, Err, Result, refl, ap, ◌∙◌, arith, w8, Fits, rules}
 use Rattle.std.specs.List.{AllByRecursion as All}
 use Rattle.std.proofs.ByRecursion.{All-from_get_or}
-use Rattle.std.proofs.lemmas.List.{take_rest}
 use Rattle.std.proofs.lemmas.Result.{err_from_is_err_and}
 use Rattle.refusals.specs.declared.Fault.{Fault}
 use Rattle.refusals.specs.Grounds.{map_ok}
@@ -9,7 +8,7 @@ use Rattle.question_file.specs.declared.check.Counts.{Counts}
 use Rattle.question_file.specs.Contents.{Contents, counts_of, checked}
 use Rattle.question_file.specs.Tables.{room_of, filled_from}
 use Rattle.question_file.proofs.Law.{undoing_writing}
-use Rattle.question_file.proofs.Standing.{Accepted, accepted}
+use Rattle.question_file.proofs.Standing.{accepted}
 use Rattle.question_file.proofs.load.load.Goals as goal
 
 bytes : (file : List ℕ) → ((i : ℕ) → Fits w8 (get_or file i 0)) → All (λ b. b < 256) file

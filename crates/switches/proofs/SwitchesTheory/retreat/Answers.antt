@@ -9,7 +9,7 @@ invariant_of-self c =
       few = c.args.self.now.few;
       places = omega arith;
       apart = subst (λ codes. different c.args.self.now.count codes ≡ true) (sym (retreated_map (λ s. s.code) before c.args.count c.retreat.ensures.dropped))
-              (different_retreated c.args.self.now.count (map (λ s. s.code) before) c.args.count c.args.self.now.apart);
+          (different_retreated c.args.self.now.count (map (λ s. s.code) before) c.args.count c.args.self.now.apart);
     }
 
 pub returns : goal.returns

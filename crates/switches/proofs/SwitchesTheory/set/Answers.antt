@@ -19,11 +19,11 @@ push-requires c =
 
 pub invariant_of-self-2 : goal.invariant_of-self-2
 invariant_of-self-2 c = record {
-      few = c.args.self.now.few;
-      places = omega arith;
-      apart = subst (λ xs. different c.args.self.now.count xs ≡ true) (sym (codes_push (vec_items c.args.self.now.stack.records) c.args.code c.push.ensures.items))
-          (set_apart c.args.self.now.count (codes c.args.self.now) c.args.code (length c.args.conflict.now) c.args.self.now.apart (sym c.in_ok-check.ensures));
-    }
+  few = c.args.self.now.few;
+  places = omega arith;
+  apart = subst (λ xs. different c.args.self.now.count xs ≡ true) (sym (codes_push (vec_items c.args.self.now.stack.records) c.args.code c.push.ensures.items))
+      (set_apart c.args.self.now.count (codes c.args.self.now) c.args.code (length c.args.conflict.now) c.args.self.now.apart (sym c.in_ok-check.ensures));
+}
 
 pub returns : goal.returns
 returns c =

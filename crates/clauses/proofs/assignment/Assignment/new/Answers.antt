@@ -11,6 +11,6 @@ invariant_of-result c =
       room = entries.capacity;
       apart = ap (λ es. different c.args.atoms (codes_of (reverse es))) entries.items;
       flagged = c.in_ok-flags.ensures.items_if_clones_equal (λ _ same. same)
-              ∙ flags_none c.args.atoms
-              ∙ sym (ap (λ es. flags_of c.args.atoms (codes_of (reverse es))) entries.items);
+          ∙ flags_none c.args.atoms
+          ∙ sym (ap (λ es. flags_of c.args.atoms (codes_of (reverse es))) entries.items);
     }

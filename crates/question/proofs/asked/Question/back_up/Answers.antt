@@ -1,4 +1,4 @@
-use Rattle.std.proofs.Common.{◌≡◌, ℕ, ◌<◌, List, ◌∷◌, length, is_some, sym, refl, ap, ◌∙◌, subst, arith}
+use Rattle.std.proofs.Common.{List, length, is_some, ap, ◌∙◌, arith}
 use Rattle.clauses.specs.Standing.{can_set}
 use Rattle.steps.specs.Clauses.{Clause}
 use Rattle.steps.specs.Steps.{codes_of}

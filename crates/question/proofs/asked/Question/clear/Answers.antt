@@ -1,4 +1,4 @@
-use Rattle.std.proofs.Common.{◌≡◌, sym, refl, ap, ◌∙◌}
+use Rattle.std.proofs.Common.{sym}
 use Rattle.question.specs.Asked.{trail_of}
 use Rattle.question.proofs.Links.{same_here, same_then, shorter, emptied}
 use Rattle.question.proofs.asked.Question.clear.Goals as goal

@@ -1,4 +1,4 @@
-use Rattle.std.proofs.Common.{◌≡◌, ◌+◌, ◌*◌, sym, refl, ap, ◌∙◌, subst}
+use Rattle.std.proofs.Common.{◌+◌, ◌*◌, subst}
 use Rattle.steps.specs.declared.Mark.TheVariants.{Forced}
 use Rattle.theory.specs.Meaning.{Meaning}
 use Rattle.question.specs.Asked.{clauses_of, trail_of, meaning_of}

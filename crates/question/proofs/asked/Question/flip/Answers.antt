@@ -1,4 +1,4 @@
-use Rattle.std.proofs.Common.{◌≡◌, sym, refl, ap, ◌∙◌}
+use Rattle.std.proofs.Common.{refl}
 use Rattle.question.specs.Asked.{clauses_of, trail_of, meaning_of}
 use Rattle.question.proofs.Rules.{can_set_opposite, flipped_by, dropped_flipped, dropped_forced}
 use Rattle.question.proofs.asked.Question.flip.Goals as goal

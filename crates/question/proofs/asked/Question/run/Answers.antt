@@ -1,4 +1,4 @@
-use Rattle.std.proofs.Common.{◌≡◌, ℕ, ◌<◌, ◌≤◌, List, sym, refl, ap, ◌∙◌, subst, arith}
+use Rattle.std.proofs.Common.{◌<◌, List, sym, subst, arith}
 use Rattle.steps.specs.Clauses.{Clause}
 use Rattle.steps.specs.Steps.{looking, start_here}
 use Rattle.steps.proofs.Weight.{weight}

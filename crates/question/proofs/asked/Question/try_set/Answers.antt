@@ -1,10 +1,10 @@
-use Rattle.std.proofs.Common.{◌≡◌, ℕ, ◌≤◌, [], ◌∷◌, ◌++◌, map, reverse, length, vec_items, vec_len, sym, refl, ap, ◌∙◌, subst, arith}
+use Rattle.std.proofs.Common.{◌≡◌, ◌≤◌, [], ◌∷◌, ◌++◌, map, reverse, length, vec_items, sym, refl, ap, ◌∙◌, subst, arith}
 use Rattle.std.proofs.lemmas.List.{map_push, reverse-append}
 use Rattle.std.proofs.lemmas.Bool.{cond-true}
 use Rattle.steps.specs.Steps.{codes_of}
 use Rattle.steps.specs.declared.Entry.{Entry}
 use Rattle.theory.specs.Meaning.{Meaning, HasWorld}
-use Rattle.question.specs.Asked.{trail_of, clauses_of, meaning_of}
+use Rattle.question.specs.Asked.{trail_of, meaning_of}
 use Rattle.question.proofs.Links.{linked_from, pushed_entry, trail_has_world}
 use Rattle.question.proofs.Sets.{refused_clash, accepted_grown}
 use Rattle.question.proofs.asked.Question.try_set.Goals as goal

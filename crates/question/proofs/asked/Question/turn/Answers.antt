@@ -1,12 +1,11 @@
-use Rattle.std.proofs.Common.{◌≡◌, ℕ, suc, ◌+◌, ◌<◌, ◌≤◌, true, false, List, ◌∷◌, Some, None, Option, sym, refl, ap, ◌∙◌, subst, arith}
-use Rattle.steps.specs.Clauses.{Clause, AllSet, LowestUnset, some_dead, first_due}
-use Rattle.steps.specs.Steps.{codes_of, looking, backing, entry, Step, fail, force, force_clash, found, paused, Due, Quiet, Next}
-use Rattle.steps.specs.declared.Mark.TheVariants.{Forced}
+use Rattle.std.proofs.Common.{◌+◌, ◌<◌, List, sym, subst, arith}
+use Rattle.steps.specs.Clauses.{Clause, AllSet, LowestUnset}
+use Rattle.steps.specs.Steps.{codes_of, looking, Step, fail, force, force_clash, found, paused, Due, Quiet, Next}
 use Rattle.steps.specs.declared.Verdict.TheVariants.{Found, Paused}
 use Rattle.steps.proofs.Judged.{first_due_facts}
 use Rattle.theory.specs.Meaning.{Meaning}
 use Rattle.question.specs.Asked.{clauses_of, trail_of, meaning_of}
-use Rattle.question.specs.Turns.{Moved, TurnBackBy}
+use Rattle.question.specs.Turns.{TurnBackBy}
 use Rattle.question.proofs.Links.{same_here, same_then, moved_back}
 use Rattle.question.proofs.Rules.{fresh_can_set}
 use Rattle.question.proofs.Turning.{turned_back, count_within, moved_by, stopped_by}

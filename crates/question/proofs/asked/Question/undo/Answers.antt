@@ -1,10 +1,8 @@
-use Rattle.std.proofs.Common.{◌≡◌, [], map, reverse, vec_items, sym, refl, ap, ◌∙◌, subst}
+use Rattle.std.proofs.Common.{◌≡◌, [], map, reverse, vec_items, sym, refl, ap, ◌∙◌}
 use Rattle.std.proofs.lemmas.List.{reverse-reverse}
 use Rattle.std.proofs.lemmas.Option.{MatchOption-from_none}
 use Rattle.clauses.specs.Standing.{older}
 use Rattle.steps.specs.declared.Entry.{Entry}
-use Rattle.theory.specs.Meaning.{Meaning}
-use Rattle.question.specs.Asked.{trail_of}
 use Rattle.question.proofs.Links.{linked_from, at_the_end, nothing_newest, can_set_again, retreats_one, trail_apart}
 use Rattle.question.proofs.asked.Question.undo.Goals as goal
 

@@ -1,4 +1,4 @@
-use Rattle.std.proofs.Common.{◌≡◌, ℕ, List, [], ◌∷◌, map, sym, refl, ap, ◌∙◌}
+use Rattle.std.proofs.Common.{ℕ, map, sym, refl, ap, ◌∙◌}
 use Rattle.theory.specs.Meaning.{has}
 use Rattle.theory.proofs.Stacks.{any_here, any_further, any_nowhere}
 use Rattle.theory.proofs.stack.Stack.has_code.Goals as goal
