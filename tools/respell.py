@@ -2,6 +2,8 @@
 """Respells the repository's own definitions, lemmas, fields and constructors as today's Rattle spells names.
 
 usage: python3 tools/respell.py            at the top of a repository, once, right after the toolchain's own script
+       python3 tools/respell.py --in-full  writes the library's AllByRecursion in full, where the toolchain's script gave
+                                           it the name of another of the library's definitions
 
 A name that begins with a small letter becomes snake case: `setGround` is `set_ground`, `few-atoms` is `few_atoms`.
 Types and modules keep theirs. Names that the prover makes (goals, invariants, measures) keep their hyphens: they stand
@@ -112,7 +114,25 @@ def respelled(text, names, path):
     return "\n".join(lines)
 
 
+def in_full():
+    """The gate refuses one of the library's definitions under the name of another."""
+    alias = "AllByRecursion as All"
+    for ending in (".antt", ".rt"):
+        for path in files(ending):
+            text = open(path, encoding="utf-8").read()
+            if alias not in text:
+                continue
+            lines = text.replace(alias, "AllByRecursion").split("\n")
+            for n, line in enumerate(lines):
+                if not re.match(r"\s*(//|--)", line):
+                    lines[n] = "".join("AllByRecursion" if t == "All" else t for t in tokens(line))
+            open(path, "w", encoding="utf-8").write("\n".join(lines))
+
+
 def main():
+    if "--in-full" in sys.argv:
+        in_full()
+        return
     found = defined()
     names = {n: CHOSEN.get(n, snake(n)) for n in found if CHOSEN.get(n, snake(n)) != n}
     goals = set()

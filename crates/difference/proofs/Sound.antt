@@ -1,7 +1,7 @@
 -- The limits of a table and of its set literals: they fit, they say what the literals mean, and they stay settled.
 use Rattle.std.specs.Prelude.{◌≡◌, ℕ, zero, suc, ◌-◌, ◌%◌, ◌<◌, ◌≤◌, true, false, ◌&&◌, List, [], ◌∷◌, ◌++◌, length, take, ℤ, pos, negsuc, ◌-ℤ◌, neg_ℤ, ◌≤ℤ◌, ◌==◌, nat_le, nat_lt, refl}
 use Rattle.std.proofs.Common.{sym, ap, ◌∙◌, arith}
-use Rattle.std.specs.List.{AllByRecursion as All}
+use Rattle.std.specs.List.{AllByRecursion}
 use Rattle.std.proofs.ByRecursion.{All-push, All-take, All-weaker}
 use Rattle.std.proofs.lemmas.List.{take-map, length-map}
 use Rattle.std.proofs.lemmas.Int.{ints}
@@ -81,14 +81,14 @@ module _ {variables : ℕ} {table : List DifferenceEntry} {limits : List Limit} 
   limit_of_fits : (code : ℕ) → atom_of code < length table → Fits variables (limit_of table code)
   limit_of_fits code l = limit_for_fits variables (entry_at table (atom_of code)) code (fit_at variables table (atom_of code) entries_fit l)
 
-  pub limits_fit : All (Fits variables) limits
+  pub limits_fit : AllByRecursion (Fits variables) limits
   limits_fit =
       all_records (λ (l : Limit). l.code) (limit_of table) limits s.drawn (Fits variables)
       (All-weaker (λ code. atom_of code < length table) (λ code. Fits variables (limit_of table code)) limit_of_fits (codes_of limits)
       (different_below (length table) (codes_of limits) s.apart))
 
   -- a world of the set literals meets the set limits, and the other way round
-  pub met_all : (world : List ℤ) → AllHold (difference_meaning variables table) (codes_of limits) world → All (Met world) limits
+  pub met_all : (world : List ℤ) → AllHold (difference_meaning variables table) (codes_of limits) world → AllByRecursion (Met world) limits
   met_all world h =
       all_records (λ (l : Limit). l.code) (limit_of table) limits s.drawn (Met world)
       (All-weaker (λ code. limit_holds (limit_of table code) world ≡ true) (λ code. Met world (limit_of table code))

@@ -6,7 +6,7 @@ use Rattle.tables.specs.declared.DifferenceEntry.{DifferenceEntry}
 use Rattle.relaxing.specs.declared.Limit.{Limit}
 use Rattle.relaxing.specs.Limits.{Met, Latest, NoTimes, pass, latest}
 use Rattle.relaxing.proofs.Finding.{latest_when_still, length_latest}
-use Rattle.std.specs.List.{AllByRecursion as All}
+use Rattle.std.specs.List.{AllByRecursion}
 use Rattle.theory.specs.Calls.{set_ground, ground_answer, Gained, Clashed}
 use Rattle.theory.specs.Meaning.{atom_of, names}
 use Rattle.theory.proofs.Apart.{different_room}
@@ -98,7 +98,7 @@ relaxed_times t false limits times n e m l a =
     let held = vec_items t.stack.records in
     absurd
     (l (latest held t.variables) (length_latest held t.variables ∙ sym m)
-    (subst (All (Met (latest held t.variables))) (sym e) (latest_when_still held t.variables t.settled).met))
+    (subst (AllByRecursion (Met (latest held t.variables))) (sym e) (latest_when_still held t.variables t.settled).met))
 
 pub latest_world : (t : Difference)
     → LatestWorld (difference_meaning t.variables (vec_items t.table)) (codes_of (vec_items t.stack.records)) (latest (vec_items t.stack.records) t.variables)

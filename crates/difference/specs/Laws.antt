@@ -2,7 +2,7 @@
 -- latest times of the set limits are a world of the set literals.
 use Rattle.std.specs.Prelude.{◌≡◌, ℕ, ◌+◌, ◌*◌, ◌%◌, true, false, cond, not, ◌&&◌, List, length, ℤ, pos, ◌-ℤ◌, neg_ℤ, ◌≤ℤ◌, int_le, nat_le}
 use Rattle.std.proofs.Common.{sym, ap, ◌∙◌, subst, arith}
-use Rattle.std.specs.List.{AllByRecursion as All}
+use Rattle.std.specs.List.{AllByRecursion}
 use Rattle.std.proofs.ByRecursion.{All-weaker}
 use Rattle.std.proofs.lemmas.Int.{ints}
 use Rattle.std.proofs.lemmas.Bool.{and_parts, leb-true, eq-eqb, ne_eqb}
@@ -75,7 +75,7 @@ lawful variables table h =
 
 module _ (variables : ℕ) (table : List DifferenceEntry) (limits : List Limit) (drawn : limits ≡ limits_of table (codes_of limits)) where
   -- a world that meets the set limits is one of the set literals
-  pub all_hold : (world : List ℤ) → All (Met world) limits → AllHold (difference_meaning variables table) (codes_of limits) world
+  pub all_hold : (world : List ℤ) → AllByRecursion (Met world) limits → AllHold (difference_meaning variables table) (codes_of limits) world
   all_hold world m =
       All-weaker (λ code. Met world (limit_of table code)) (λ code. limit_holds (limit_of table code) world ≡ true)
       (λ code. met_holds (limit_of table code) world) (codes_of limits)

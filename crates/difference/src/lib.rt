@@ -2,7 +2,7 @@
 #![tactic(auto)]
 
 ghost use Rattle.std.specs.Prelude.{◌≡◌, ℕ, ◌≤◌, true, false, List, [], ◌∷◌, map, length, vec_len, vec_capacity, MatchBool};
-ghost use Rattle.std.specs.List.{AllByRecursion as All};
+ghost use Rattle.std.specs.List.{AllByRecursion};
 ghost use Rattle.relaxing.specs.Limits.{Fits, NoTimes, moves, latest};
 ghost use Rattle.tables.specs.Entries.{difference_fits, all_entries_fit};
 ghost use Rattle.theory.specs.Calls.{world_answer, world_written};
@@ -53,7 +53,7 @@ fn limit_for(entry: DifferenceEntry, code: u16) -> Limit
 
 // Whether there are times that meet the limits.
 fn have_times(limits: &[Limit], variables: usize) -> bool
-    requires fits { All (Fits variables) limits.now }
+    requires fits { AllByRecursion (Fits variables) limits.now }
     requires few { (length limits.now ≤ 513) × (variables ≤ 512) }
     ensures { MatchBool result (moves limits.now (latest limits.now variables) ≡ false) (NoTimes limits.now variables) }
 {

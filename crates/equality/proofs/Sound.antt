@@ -4,7 +4,7 @@ use Rattle.std.proofs.ByRecursion.{All-get_or, All-push, All-take, All-weaker, D
 use Rattle.std.proofs.lemmas.List.{take-map}
 use Rattle.std.proofs.lemmas.Bool.{and_parts, leb-true, cond_both}
 use Rattle.std.proofs.lemmas.Bool.Decides.{nat_tests}
-use Rattle.std.specs.List.{AllByRecursion as All}
+use Rattle.std.specs.List.{AllByRecursion}
 use Rattle.joining.proofs.Labelled.{holds_labelled, agrees_from_world}
 use Rattle.joining.specs.declared.Join.{Join}
 use Rattle.joining.specs.Joins.{join_holds, Fits, NoWorld as NoJoined, labelled, agrees}
@@ -44,7 +44,7 @@ module _ {variables : ℕ} {table : List EqualityEntry} {joins : List Join} (s :
   join_fits : (code : ℕ) → atom_of code < length table → Fits variables (join_of table code)
   join_fits code l = join_for_fits variables (entry_at table (atom_of code)) code (fit_at variables table (atom_of code) entries_fit l)
 
-  pub joins_fit : All (Fits variables) joins
+  pub joins_fit : AllByRecursion (Fits variables) joins
   joins_fit =
       all_records (λ j. j.code) (join_of table) joins s.drawn (Fits variables)
       (All-weaker (λ code. atom_of code < length table) (λ code. Fits variables (join_of table code)) join_fits (codes_of joins)

@@ -2,7 +2,7 @@
 #![tactic(auto)]
 
 ghost use Rattle.std.specs.Prelude.{◌≡◌, ℕ, ◌≤◌, true, List, [], ◌∷◌, map, length, vec_len, vec_capacity, MatchBool};
-ghost use Rattle.std.specs.List.{AllByRecursion as All};
+ghost use Rattle.std.specs.List.{AllByRecursion};
 ghost use Rattle.joining.specs.Joins.{Fits, Lowest, NoWorld, agrees, labelled};
 ghost use Rattle.tables.specs.Entries.{equality_fits, all_entries_fit};
 ghost use Rattle.theory.specs.Calls.{world_answer, world_written};
@@ -45,7 +45,7 @@ fn join_for(entry: EqualityEntry, code: u16) -> Join
 
 // Whether there are numbers of which the joins hold.
 fn have_world(joins: &[Join], variables: usize) -> bool
-    requires fits { All (Fits variables) joins.now }
+    requires fits { AllByRecursion (Fits variables) joins.now }
     requires few { variables ≤ 512 }
     ensures { MatchBool result (agrees joins.now (labelled joins.now variables) ≡ true) (NoWorld joins.now variables) }
 {

@@ -3,7 +3,7 @@ use Rattle.std.proofs.Common.{◌≡◌, ℕ, ◌<◌, true, false, not, List, [
 use Rattle.std.proofs.ByRecursion.{all-has}
 use Rattle.std.proofs.lemmas.Int.{ints}
 use Rattle.std.proofs.lemmas.Bool.{cases_Bool, cond-true, cond-false, both_ways, not-true, not_from_false, and_parts, and_from}
-use Rattle.std.specs.List.{ContainsAt as Has, AllByRecursion as All}
+use Rattle.std.specs.List.{ContainsAt as Has, AllByRecursion}
 use Rattle.joining.specs.declared.Join.{Join}
 use Rattle.joining.specs.Joins.{at, same, join_holds, Fits, Holds, Joined, itself, onward, back, agrees}
 
@@ -38,13 +38,13 @@ Level world j = j.equal ≡ true → at world j.a ≡ at world j.b
 
 module _ (js : List Join) where
   -- joined variables have one number where each equality's two have
-  pub joined_level : (world : List ℤ) → All (Level world) js → {x y : ℕ} → Joined js x y → at world x ≡ at world y
+  pub joined_level : (world : List ℤ) → AllByRecursion (Level world) js → {x y : ℕ} → Joined js x y → at world x ≡ at world y
   joined_level world levels {x} {y} p =
       joined_passes (λ z. at world x ≡ at world z)
       (λ j h e. let one = all-has (Level world) js j levels h e in (λ q. q ∙ one, λ q. q ∙ sym one)) p refl
 
   -- what is joined to a variable that there is, is one that there is
-  pub joined_below : (n : ℕ) → All (Fits n) js → {x y : ℕ} → Joined js x y → x < n → y < n
+  pub joined_below : (n : ℕ) → AllByRecursion (Fits n) js → {x y : ℕ} → Joined js x y → x < n → y < n
   joined_below n fits p h =
       joined_passes (λ z. z < n)
       (λ j k e. let f = all-has (Fits n) js j fits k in (λ q. f.b_below, λ q. f.a_below)) p h

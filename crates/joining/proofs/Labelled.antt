@@ -2,14 +2,14 @@
 use Rattle.std.proofs.Common.{◌≡◌, ℕ, ◌<◌, ◌≤◌, true, false, List, length, ℤ, pos, nat_abs, sym, ap, ◌∙◌, subst, inl, inr}
 use Rattle.std.proofs.ByRecursion.{all-has, All-weaker, all_has_itself}
 use Rattle.std.proofs.lemmas.Bool.{cases_Bool, both_ways}
-use Rattle.std.specs.List.{ContainsAt as Has, AllByRecursion as All}
+use Rattle.std.specs.List.{ContainsAt as Has, AllByRecursion}
 use Rattle.joining.specs.declared.Join.{Join}
 use Rattle.joining.specs.Joins.{at, join_holds, Fits, Holds, NoWorld, Joined, Lowest, numbers, labelled, agrees}
 use Rattle.joining.proofs.Chains.{Level, joined_level, joined_below, holds_level, holds_equal, holds_apart, holds_differ, holds_from_agrees, agrees_from_holds}
 use Rattle.joining.proofs.Labels.{Labels, joined_by_label, length_joined_by_all, joined_by_all_level, labels_joined_by_all, length_numbers, labels_numbers}
 
 -- labels, each joined to its variable and not above it, and one for what an equality joins, are the lowest
-pub lowest_from_labels : (js : List Join) (w : List ℤ) → All (Fits (length w)) js → Labels js w → All (Level w) js → Lowest js w
+pub lowest_from_labels : (js : List Join) (w : List ℤ) → AllByRecursion (Fits (length w)) js → Labels js w → AllByRecursion (Level w) js → Lowest js w
 lowest_from_labels js w fits ls levels =
     record {
       label = λ x. nat_abs (at w x);
@@ -28,17 +28,17 @@ module _ (js : List Join) (n : ℕ) where
   pub holds_labelled : agrees js (labelled js n) ≡ true → Holds js (labelled js n)
   holds_labelled = holds_from_agrees js (labelled js n)
 
-  module _ (fits : All (Fits n) js) where
-    fits_numbers : All (Fits (length (numbers 0 n))) js
-    fits_numbers = subst (λ k. All (Fits k) js) (sym (length_numbers 0 n)) fits
+  module _ (fits : AllByRecursion (Fits n) js) where
+    fits_numbers : AllByRecursion (Fits (length (numbers 0 n))) js
+    fits_numbers = subst (λ k. AllByRecursion (Fits k) js) (sym (length_numbers 0 n)) fits
 
-    fits_labelled : All (Fits (length (labelled js n))) js
-    fits_labelled = subst (λ k. All (Fits k) js) (sym length_labelled) fits
+    fits_labelled : AllByRecursion (Fits (length (labelled js n))) js
+    fits_labelled = subst (λ k. AllByRecursion (Fits k) js) (sym length_labelled) fits
 
     pub labels_labelled : Labels js (labelled js n)
     labels_labelled = labels_joined_by_all js js (numbers 0 n) (all_has_itself js) fits_numbers (labels_numbers js n)
 
-    pub level_labelled : All (Level (labelled js n)) js
+    pub level_labelled : AllByRecursion (Level (labelled js n)) js
     level_labelled = joined_by_all_level js (numbers 0 n) fits_numbers
 
     pub lowest_labelled : Lowest js (labelled js n)

@@ -6,7 +6,7 @@ use Rattle.std.proofs.lemmas.List.{get_or-map}
 use Rattle.std.proofs.lemmas.Int.{ints}
 use Rattle.std.proofs.lemmas.Bool.{cases_Bool, cond-true, cond-false}
 use Rattle.std.specs.Int.{int_max, int_min}
-use Rattle.std.specs.List.{ContainsAt as Has, AllByRecursion as All}
+use Rattle.std.specs.List.{ContainsAt as Has, AllByRecursion}
 use Rattle.joining.specs.declared.Join.{Join}
 use Rattle.joining.specs.Joins.{at, same, Fits, Joined, itself, onward, back, joined_by, joined_by_all, numbers}
 use Rattle.joining.proofs.Chains.{same_true, joined_trans, joined_sym, Level}
@@ -128,8 +128,8 @@ module _ (js : List Join) (w : List ℤ) where
 
 -- ---- all joins
 
-fits_joined_by : (j : Join) (js : List Join) (w : List ℤ) → All (Fits (length w)) js → All (Fits (length (joined_by j w))) js
-fits_joined_by j js w f = subst (λ n. All (Fits n) js) (sym (length_joined_by j w)) f
+fits_joined_by : (j : Join) (js : List Join) (w : List ℤ) → AllByRecursion (Fits (length w)) js → AllByRecursion (Fits (length (joined_by j w))) js
+fits_joined_by j js w f = subst (λ n. AllByRecursion (Fits n) js) (sym (length_joined_by j w)) f
 
 pub length_joined_by_all : (js : List Join) (w : List ℤ) → length (joined_by_all js w) ≡ length w
 length_joined_by_all [] w = refl
@@ -148,7 +148,7 @@ joined_by_all_keeps (j ∷ js) w x y h k e =
     (subst (λ n. x < n) (sym (length_joined_by j w)) h) (subst (λ n. y < n) (sym (length_joined_by j w)) k)
     (joined_by_keeps j w x y h k e)
 
-pub joined_by_all_level : (js : List Join) (w : List ℤ) → All (Fits (length w)) js → All (Level (joined_by_all js w)) js
+pub joined_by_all_level : (js : List Join) (w : List ℤ) → AllByRecursion (Fits (length w)) js → AllByRecursion (Level (joined_by_all js w)) js
 joined_by_all_level [] w f = tt
 joined_by_all_level (j ∷ js) w f = (
   λ e. joined_by_all_keeps js (joined_by j w) j.a j.b
@@ -158,7 +158,7 @@ joined_by_all_level (j ∷ js) w f = (
   joined_by_all_level js (joined_by j w) (fits_joined_by j js w f.1),
 )
 
-pub labels_joined_by_all : (all js : List Join) (w : List ℤ) → All (Has all) js → All (Fits (length w)) js → Labels all w
+pub labels_joined_by_all : (all js : List Join) (w : List ℤ) → AllByRecursion (Has all) js → AllByRecursion (Fits (length w)) js → Labels all w
     → Labels all (joined_by_all js w)
 labels_joined_by_all all [] w has f ls = ls
 labels_joined_by_all all (j ∷ js) w has f ls =

@@ -1,7 +1,7 @@
 -- Variables that are to be equal or to differ, and which of them equalities join.
 use Rattle.std.specs.Prelude.{◌≡◌, ℕ, zero, suc, ◌<◌, ◌≤◌, Bool, true, cond, not, ◌&&◌, List, [], ◌∷◌, map, length, ℤ, pos, int_le, slice_index_or}
 use Rattle.std.specs.Int.{int_max, int_min}
-use Rattle.std.specs.List.{ContainsAt as Has, AllByRecursion as All}
+use Rattle.std.specs.List.{ContainsAt as Has, AllByRecursion}
 use Rattle.joining.specs.declared.Join.{Join}
 
 -- the number of a variable
@@ -21,7 +21,7 @@ pub record Fits (variables : ℕ) (j : Join) : Type 0 where
   pub b_below : j.b < variables
 
 abbrev pub Holds : List Join → List ℤ → Type 0
-Holds joins world = All (λ j. join_holds world j ≡ true) joins
+Holds joins world = AllByRecursion (λ j. join_holds world j ≡ true) joins
 
 -- no world of so many variables is as the joins say
 abbrev pub NoWorld : List Join → ℕ → Type 0

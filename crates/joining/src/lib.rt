@@ -3,7 +3,7 @@
 #![tactic(auto)]
 
 ghost use Rattle.std.specs.Prelude.{◌≡◌, ◌≤◌, length, MatchBool};
-ghost use Rattle.std.specs.List.{AllByRecursion as All};
+ghost use Rattle.std.specs.List.{AllByRecursion};
 ghost use Rattle.joining.specs.Joins.{Fits, relabelled, joined_by, labelled, agrees, join_holds, Lowest, Holds, NoWorld};
 
 use theory::stack::Record;
@@ -60,7 +60,7 @@ fn agrees_with(join: Join, labels: &[i64]) -> bool
 // Writes for every variable the lowest variable that equalities join to it, itself included. Answers whether all joins
 // hold of these numbers; where not, they hold of no numbers.
 pub fn join_all(joins: &[Join], labels: &mut [i64]) -> bool
-    requires fits { All (Fits (length labels.old)) joins.now }
+    requires fits { AllByRecursion (Fits (length labels.old)) joins.now }
     requires few { length labels.old ≤ 512 }
     ensures after { labels.new ≡ labelled joins.now (length labels.old) }
     ensures lowest { Lowest joins.now labels.new }

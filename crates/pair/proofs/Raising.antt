@@ -2,7 +2,7 @@
 use Rattle.std.proofs.Common.{◌≡◌, ℕ, ◌+◌, ◌<◌, ◌≤◌, true, List, length, take, drop, Err, sym, ap, ◌∙◌, subst, arith}
 use Rattle.std.proofs.ByRecursion.{All-weaker}
 use Rattle.std.proofs.lemmas.List.{length-append, take_at}
-use Rattle.std.specs.List.{AllByRecursion as All}
+use Rattle.std.specs.List.{AllByRecursion}
 use Rattle.refusals.specs.declared.Refusal.{Refusal}
 use Rattle.refusals.specs.declared.Refusal.TheVariants.{Clash}
 use Rattle.theory.proofs.Apart.{different_below}
@@ -22,9 +22,9 @@ module _ (m : Meaning) (stack conflict : List ℕ) (code : ℕ) (list stack' lis
     front = ap (take count) k.written ∙ take_at conflict (drop (length conflict) list) count (sym k.counted)
 
     -- raised by no more than the left's atoms ask for, every code still fits
-    pub raised_fit : (by : ℕ) → m.atoms ≤ 512 → different m.atoms stack ≡ true → by ≤ 1024 → code + by < 65536 → All (λ c. c + by < 65536) (take count list')
+    pub raised_fit : (by : ℕ) → m.atoms ≤ 512 → different m.atoms stack ≡ true → by ≤ 1024 → code + by < 65536 → AllByRecursion (λ c. c + by < 65536) (take count list')
     raised_fit by few apart small fits =
-        let others : All (λ c. c + by < 65536) k.true_conflict.others =
+        let others : AllByRecursion (λ c. c + by < 65536) k.true_conflict.others =
         picked_hold (λ c. c + by < 65536) k.true_conflict.in_order
         (All-weaker (λ c. atom_of c < m.atoms) (λ c. c + by < 65536) (λ c h. omega arith) stack (different_below m.atoms stack apart)) in
-        subst (All (λ c. c + by < 65536)) (sym (front ∙ k.true_conflict.begins)) (fits, others)
+        subst (AllByRecursion (λ c. c + by < 65536)) (sym (front ∙ k.true_conflict.begins)) (fits, others)

@@ -2,7 +2,7 @@
 use Rattle.std.proofs.Common.{◌≡◌, ℕ, ◌+◌, ◌-◌, ◌*◌, ◌<◌, ◌≤◌, cond, ltb, leb, List, [], ◌∷◌, ◌++◌, length, take, drop, Some, None, Err, Option, sym, refl, ap, ◌∙◌, subst, arith, MatchOption}
 use Rattle.std.proofs.lemmas.List.{length-map, take_at, drop_at}
 use Rattle.std.proofs.lemmas.Bool.{cond-false, le-ltb, lt-leb}
-use Rattle.std.specs.List.{AllByRecursion as All}
+use Rattle.std.specs.List.{AllByRecursion}
 use Rattle.refusals.specs.Grounds.{clash_count}
 use Rattle.refusals.specs.declared.Refusal.{Refusal}
 use Rattle.refusals.specs.declared.Refusal.TheVariants.{NoSuchAtom, AtomSet, ConflictListShort}
@@ -39,8 +39,8 @@ module _ (l r : Meaning) (codes : List ℕ) (code : ℕ) (list : List ℕ) (belo
 
     conflict_left : (conflict : List ℕ) → Conflict l (left_of l.atoms codes) code conflict → Conflict (pair_meaning l r) codes code conflict
     conflict_left conflict k =
-        let all : All (λ c. c < 2 * l.atoms) conflict =
-        subst (All (λ c. c < 2 * l.atoms)) (sym k.begins) (h, picked_hold (λ c. c < 2 * l.atoms) k.in_order (left_of_below l.atoms codes)) in
+        let all : AllByRecursion (λ c. c < 2 * l.atoms) conflict =
+        subst (AllByRecursion (λ c. c < 2 * l.atoms)) (sym k.begins) (h, picked_hold (λ c. c < 2 * l.atoms) k.in_order (left_of_below l.atoms codes)) in
         record {
           others = k.others;
           begins = k.begins;

@@ -3,7 +3,7 @@ use Rattle.std.proofs.Common.{◌≡◌, ℕ, ◌+◌, ◌-◌, ◌*◌, ◌<◌
 use Rattle.std.proofs.lemmas.List.{append-nil, take-append-drop}
 use Rattle.std.proofs.lemmas.Bool.{lt-ltb, le-ltb, ltb-true, ltb-false, ne_eqb, cond-true, cond-false, cond_both}
 use Rattle.std.proofs.lemmas.Bool.Decides.{nat_tests}
-use Rattle.std.specs.List.{AllByRecursion as All}
+use Rattle.std.specs.List.{AllByRecursion}
 use Rattle.theory.specs.Calls.{Picked, none, keep, skip}
 use Rattle.theory.specs.Meaning.{atom_of, names}
 use Rattle.pair.specs.Pairs.{is_left, left_of, right_of, raised}
@@ -30,7 +30,7 @@ picked_map : {X : Type 0} (f : X → X) {y : X} {xs ys zs : List X} → ((ws : L
 picked_map f h (keep p) = keep (h _ p)
 picked_map f h (skip p) = skip (h _ p)
 
-pub picked_hold : {X : Type 0} (P : X → Type 0) {xs ys : List X} → Picked xs ys → All P ys → All P xs
+pub picked_hold : {X : Type 0} (P : X → Type 0) {xs ys : List X} → Picked xs ys → AllByRecursion P ys → AllByRecursion P xs
 picked_hold P none h = tt
 picked_hold P (keep p) h = (h.0, picked_hold P p h.1)
 picked_hold P (skip p) h = picked_hold P p h.1
@@ -115,13 +115,13 @@ module _ (cut : ℕ) where
       cond_both (is_left cut x) (x ∷ left_of cut codes) (left_of cut codes) (λ ys. Picked xs ys → Picked xs (x ∷ codes))
       (λ _. picked_more (picked_left codes)) (λ _ q. skip (picked_left codes xs q)) p
 
-  pub left_of_below : (codes : List ℕ) → All (λ code. code < 2 * cut) (left_of cut codes)
+  pub left_of_below : (codes : List ℕ) → AllByRecursion (λ code. code < 2 * cut) (left_of cut codes)
   left_of_below [] = tt
   left_of_below (x ∷ codes) =
-      cond_both (is_left cut x) (x ∷ left_of cut codes) (left_of cut codes) (All (λ code. code < 2 * cut))
+      cond_both (is_left cut x) (x ∷ left_of cut codes) (left_of cut codes) (AllByRecursion (λ code. code < 2 * cut))
       (λ e. (ltb-true x (2 * cut) e, left_of_below codes)) (λ _. left_of_below codes)
 
-  pub left_of_all : (xs : List ℕ) → All (λ code. code < 2 * cut) xs → left_of cut xs ≡ xs
+  pub left_of_all : (xs : List ℕ) → AllByRecursion (λ code. code < 2 * cut) xs → left_of cut xs ≡ xs
   left_of_all [] h = refl
   left_of_all (x ∷ xs) h = cond-true (is_left cut x) (x ∷ left_of cut xs) (left_of cut xs) (left x h.0) ∙ ap (λ ys. x ∷ ys) (left_of_all xs h.1)
 

@@ -3,7 +3,7 @@ use Rattle.std.specs.Prelude.{◌≡◌, ℕ, ◌+◌, ◌-◌, ◌*◌, ◌<◌
 use Rattle.std.proofs.Common.{⊎_elim, sym, ap, subst, ◌∙◌, arith}
 use Rattle.std.proofs.lemmas.List.{length-append, length-drop, length-take-le, take_at, drop_at}
 use Rattle.std.proofs.lemmas.Bool.{and_parts, cases_lt, cond-true, cond-false, le-ltb, leb-true, lt-ltb}
-use Rattle.std.specs.List.{AllByRecursion as All}
+use Rattle.std.specs.List.{AllByRecursion}
 use Rattle.theory.proofs.Apart.{different_few}
 use Rattle.theory.specs.Meaning.{Meaning, Lawful, AllHold, WorldOf, different}
 use Rattle.pair.specs.Pairs.{is_left, left_of, right_of, pair_meaning, sizes_of, pair_fits, shown_if, shown_pair, pair_world, PairExact}
@@ -14,13 +14,13 @@ world_at m world e w = subst (λ ls. WorldOf m ls world) e w
 
 -- one more literal, of the side that a test says
 module _ (P Q : ℕ → Bool) (x y : ℕ) (ls rs : List ℕ) where
-  split_more : (b : Bool) → cond b (P x) (Q y) ≡ true → All (λ c. P c ≡ true) ls × All (λ c. Q c ≡ true) rs
-      → All (λ c. P c ≡ true) (cond b (x ∷ ls) ls) × All (λ c. Q c ≡ true) (cond b rs (y ∷ rs))
+  split_more : (b : Bool) → cond b (P x) (Q y) ≡ true → AllByRecursion (λ c. P c ≡ true) ls × AllByRecursion (λ c. Q c ≡ true) rs
+      → AllByRecursion (λ c. P c ≡ true) (cond b (x ∷ ls) ls) × AllByRecursion (λ c. Q c ≡ true) (cond b rs (y ∷ rs))
   split_more true h k = ((h, k.0), k.1)
   split_more false h k = (k.0, (h, k.1))
 
-  join_more : (b : Bool) → All (λ c. P c ≡ true) (cond b (x ∷ ls) ls) → All (λ c. Q c ≡ true) (cond b rs (y ∷ rs))
-      → (cond b (P x) (Q y) ≡ true) × (All (λ c. P c ≡ true) ls × All (λ c. Q c ≡ true) rs)
+  join_more : (b : Bool) → AllByRecursion (λ c. P c ≡ true) (cond b (x ∷ ls) ls) → AllByRecursion (λ c. Q c ≡ true) (cond b rs (y ∷ rs))
+      → (cond b (P x) (Q y) ≡ true) × (AllByRecursion (λ c. P c ≡ true) ls × AllByRecursion (λ c. Q c ≡ true) rs)
   join_more true h k = (h.0, (h.1, k))
   join_more false h k = (k.0, (h, k.1))
 

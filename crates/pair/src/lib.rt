@@ -2,7 +2,7 @@
 #![tactic(auto)]
 
 ghost use Rattle.std.specs.Prelude.{◌≡◌, ◌+◌, ◌<◌, ◌≤◌, true, [], map, length, vec_capacity};
-ghost use Rattle.std.specs.List.{AllByRecursion as All};
+ghost use Rattle.std.specs.List.{AllByRecursion};
 ghost use Rattle.pair.specs.Held.{Together, codes_of, meaning_of, world_of, conflict_of, places_of};
 ghost use Rattle.pair.specs.Pairs.{left_of, raised, pair_fits, pair_sizes, shown_pair, sizes_of, PairExact, RaisedSetBy};
 ghost use Rattle.pair.specs.Worlds.{pair_lawful, pair_worldly, world_at};
@@ -41,7 +41,7 @@ fn count_left(came: &[Literal], atoms: usize) -> usize
 
 // Numbers literals higher by so much.
 fn raise(codes: &mut [u16], by: u16)
-    requires { All (λ code. code + by < 65536) codes.old }
+    requires { AllByRecursion (λ code. code + by < 65536) codes.old }
     ensures { codes.new ≡ raised by codes.old }
 {
     for code in codes.iter_mut() {

@@ -2,7 +2,7 @@
 use Rattle.std.proofs.Common.{◌≡◌, ℕ, ◌<◌, true, false, not, ltb, List, [], ◌∷◌, ◌++◌, map, reverse, length, is_some, Some, None, Ok, Err, vec_items, vec_len, Option, sym, refl, ap, ◌∙◌, subst, arith}
 use Rattle.std.proofs.lemmas.List.{reverse-append, reverse-reverse, map_push, length_push}
 use Rattle.std.proofs.lemmas.Bool.{and_from, lt-ltb, le-ltb, not_from_false, cond-false, false≢true}
-use Rattle.std.specs.List.{AllByRecursion as All}
+use Rattle.std.specs.List.{AllByRecursion}
 use Rattle.refusals.specs.declared.Refusal.TheVariants.{MoreThanSet}
 use Rattle.clauses.specs.Standing.{can_set, newest, older}
 use Rattle.steps.specs.Calls.{are_atoms_below}
@@ -55,8 +55,8 @@ module _ {T : Type 0} (theory : Ghosts T) where
         same_stack = stack;
         conflict_places = conflict ∙ l.conflict_places ∙ sym (ap (λ (m : Meaning). m.atoms) same);
         atoms_there =
-            subst (λ (m : Meaning). All (λ clause. are_atoms_below m.atoms clause ≡ true) (clauses_of q')) (sym same)
-            (subst (All (λ clause. are_atoms_below (meaning_of theory q).atoms clause ≡ true)) (sym clauses) l.atoms_there);
+            subst (λ (m : Meaning). AllByRecursion (λ clause. are_atoms_below m.atoms clause ≡ true) (clauses_of q')) (sym same)
+            (subst (AllByRecursion (λ clause. are_atoms_below (meaning_of theory q).atoms clause ≡ true)) (sym clauses) l.atoms_there);
       }
 
   -- the trail has a world: the one that the theory gives

@@ -3,7 +3,7 @@ use Rattle.std.proofs.Common.{◌≡◌, ℕ, ◌+◌, ◌≤◌, true, false, n
 use Rattle.std.proofs.ByRecursion.{All-push}
 use Rattle.std.proofs.lemmas.List.{reverse-append, reverse-reverse, map_push, length_push, take-append-le, take_all}
 use Rattle.std.proofs.lemmas.Bool.{and_parts, ltb-true, not-true, lt-leb, le-ltb, cond-false, false≢true}
-use Rattle.std.specs.List.{AllByRecursion as All}
+use Rattle.std.specs.List.{AllByRecursion}
 use Rattle.refusals.specs.Grounds.{clash_count}
 use Rattle.refusals.specs.declared.Refusal.{Refusal}
 use Rattle.steps.specs.Steps.{codes_of}
@@ -25,9 +25,9 @@ codes_reversed (x ∷ xs) =
     ap codes_of (reverse_first x xs) ∙ map_push (λ (e : Entry). e.code) (reverse xs) x
     ∙ ap (λ cs. cs ++ (x.code ∷ [])) (codes_reversed xs) ∙ sym (reverse_first x.code (codes xs))
 
-all_reverse : {A : Type 0} (P : A → Type 0) (xs : List A) → All P xs → All P (reverse xs)
+all_reverse : {A : Type 0} (P : A → Type 0) (xs : List A) → AllByRecursion P xs → AllByRecursion P (reverse xs)
 all_reverse P [] h = tt
-all_reverse P (x ∷ xs) h = subst (All P) (sym (reverse_first x xs)) (All-push P (reverse xs) x (all_reverse P xs h.1) h.0)
+all_reverse P (x ∷ xs) h = subst (AllByRecursion P) (sym (reverse_first x xs)) (All-push P (reverse xs) x (all_reverse P xs h.1) h.0)
 
 names_push : (cs : List ℕ) (c a : ℕ) → names (cs ++ (c ∷ [])) a ≡ (eqb (atom_of c) a || names cs a)
 names_push [] c a = refl
@@ -38,7 +38,7 @@ names_reverse [] a = refl
 names_reverse (c ∷ cs) a =
     ap (λ xs. names xs a) (reverse_first c cs) ∙ names_push (reverse cs) c a ∙ ap (λ b. eqb (atom_of c) a || b) (names_reverse cs a)
 
-all_picked : {A : Type 0} (P : A → Type 0) {xs ys : List A} → Picked xs ys → All P ys → All P xs
+all_picked : {A : Type 0} (P : A → Type 0) {xs ys : List A} → Picked xs ys → AllByRecursion P ys → AllByRecursion P xs
 all_picked P none h = tt
 all_picked P (keep p) h = (h.0, all_picked P p h.1)
 all_picked P (skip p) h = all_picked P p h.1

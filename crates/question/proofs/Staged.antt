@@ -2,7 +2,7 @@
 use Rattle.std.proofs.Common.{◌≡◌, ℕ, Bool, true, false, ltb, List, [], length, ℤ, Some, None, Ok, Err, vec_items, Option, Result, sym, refl, ◌∙◌, subst, arith}
 use Rattle.std.proofs.ByRecursion.{All-push}
 use Rattle.std.proofs.lemmas.Bool.{cond-true, cond-false}
-use Rattle.std.specs.List.{AllByRecursion as All}
+use Rattle.std.specs.List.{AllByRecursion}
 use Rattle.refusals.specs.declared.Refusal.{Refusal}
 use Rattle.clauses.specs.Placed.{posted_to}
 use Rattle.steps.specs.Calls.{Call, Post, Search, Resume, World, End, Close, Refused, Posted, Searched, Resumed, Ended, Closed, State, open_with, are_atoms_below, post_ground, refusal, state_after, Does, refused, posted, searched, resumed, read, ended_paused, ended_found, closing}
@@ -57,10 +57,10 @@ given_world_is_world theory q l is =
 
 -- a clause that is posted is over the atoms that there are
 pub below_after : (atoms : ℕ) (clauses clauses' : List Clause) (clause : Clause) (reason : Option Refusal) → post_ground atoms clauses clause ≡ reason
-    → clauses' ≡ posted_to clauses clause reason → All (λ c. are_atoms_below atoms c ≡ true) clauses → All (λ c. are_atoms_below atoms c ≡ true) clauses'
-below_after atoms clauses clauses' clause (Some why) is to h = subst (All (λ c. are_atoms_below atoms c ≡ true)) (sym to) h
+    → clauses' ≡ posted_to clauses clause reason → AllByRecursion (λ c. are_atoms_below atoms c ≡ true) clauses → AllByRecursion (λ c. are_atoms_below atoms c ≡ true) clauses'
+below_after atoms clauses clauses' clause (Some why) is to h = subst (AllByRecursion (λ c. are_atoms_below atoms c ≡ true)) (sym to) h
 below_after atoms clauses clauses' clause None is to h =
-    subst (All (λ c. are_atoms_below atoms c ≡ true)) (sym to) (All-push (λ c. are_atoms_below atoms c ≡ true) clauses clause h (posted_below atoms clauses clause is))
+    subst (AllByRecursion (λ c. are_atoms_below atoms c ≡ true)) (sym to) (All-push (λ c. are_atoms_below atoms c ≡ true) clauses clause h (posted_below atoms clauses clause is))
 
 module _ (m : Meaning) (clauses : List Clause) (trail : Trail) where
   -- where the stage does not allow a call, the call is refused

@@ -1,6 +1,6 @@
 -- Steps one after another, and what they weigh.
 use Rattle.std.proofs.Common.{◌≡◌, ℕ, ◌<◌, ◌≤◌, true, List, [], sym, subst, arith}
-use Rattle.std.specs.List.{AllByRecursion as All}
+use Rattle.std.specs.List.{AllByRecursion}
 use Rattle.steps.specs.Calls.{are_atoms_below}
 use Rattle.steps.specs.Clauses.{Clause}
 use Rattle.steps.specs.Steps.{Trail, Spot, looking, backing, Step, Steps, start_here, then, Ends, none, Runs}
@@ -20,7 +20,7 @@ module _ {m : Meaning} {clauses : List Clause} {grant : ℕ} where
   pub one_step : {s s' : Spot} → Step m clauses grant s s' → Steps m clauses grant s s'
   one_step step = then start_here step
 
-module _ (m : Meaning) (clauses : List Clause) (below : All (λ clause. are_atoms_below m.atoms clause ≡ true) clauses) where
+module _ (m : Meaning) (clauses : List Clause) (below : AllByRecursion (λ clause. are_atoms_below m.atoms clause ≡ true) clauses) where
   steps_lower : {grant : ℕ} {s s' : Spot} → Steps m clauses grant s s' → weight m.atoms s' ≤ weight m.atoms s
   steps_lower start_here = omega arith
   steps_lower (then steps step) = omega (arith, steps_lower steps, step_lowers m clauses below step)

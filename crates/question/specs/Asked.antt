@@ -1,6 +1,6 @@
 -- What holds of every question that was made by its own calls.
 use Rattle.std.specs.Prelude.{◌≡◌, ℕ, true, List, [], map, reverse, vec_items, vec_len}
-use Rattle.std.specs.List.{AllByRecursion as All}
+use Rattle.std.specs.List.{AllByRecursion}
 use Rattle.clauses.specs.Placed.{clauses_at}
 use Rattle.clauses.specs.declared.assignment.Assignment.{Assignment}
 use Rattle.clauses.specs.declared.posted.Clauses.{Clauses}
@@ -33,7 +33,7 @@ pub record Linked {T : Type 0} (theory : Ghosts T) (q : Question T) : Type 0 whe
   pub same_atoms : q.assignment.atoms ≡ (meaning_of theory q).atoms
   pub same_stack : theory.stack q.theory ≡ map (λ e. e.code) (vec_items q.assignment.entries)
   pub conflict_places : vec_len q.conflict ≡ (meaning_of theory q).atoms
-  pub atoms_there : All (λ clause. are_atoms_below (meaning_of theory q).atoms clause ≡ true) (clauses_of q)
+  pub atoms_there : AllByRecursion (λ clause. are_atoms_below (meaning_of theory q).atoms clause ≡ true) (clauses_of q)
 
 -- without a search under way nothing is set
 abbrev pub Resting : Stage → Trail → Type 0

@@ -1,6 +1,6 @@
 -- The bodies of fields, from bytes to what they say and back.
 use Rattle.std.proofs.Common.{◌≡◌, ℕ, zero, suc, ◌+◌, ◌*◌, ◌/◌, ◌%◌, ◌<◌, List, [], ◌∷◌, ◌++◌, length, get_or, drop, ℤ, sym, refl, ap, ◌∙◌, arith, w32, SFits, to_z, of_z}
-use Rattle.std.specs.List.{AllByRecursion as All}
+use Rattle.std.specs.List.{AllByRecursion}
 use Rattle.std.proofs.ByRecursion.{All-get_or}
 use Rattle.std.proofs.lemmas.List.{drop_all, drop_more}
 use Rattle.std.proofs.lemmas.Int.{ints, to_z-of_z, of_z-to_z}
@@ -12,7 +12,7 @@ use Rattle.question_file.specs.Contents.{word_at, words, difference_of, equality
 use Rattle.question_file.specs.Writing.{word_bytes, signed_bytes, difference_body, equality_body, clause_body}
 
 abbrev pub Bytes : List ℕ → Type 0
-Bytes xs = All (λ b. b < 256) xs
+Bytes xs = AllByRecursion (λ b. b < 256) xs
 
 -- n elements of a list from a place on, one by one
 abbrev placed : List ℕ → ℕ → ℕ → List ℕ
@@ -113,7 +113,7 @@ clause_bytes (x ∷ []) b e = absurd (omega arith)
 clause_bytes (high ∷ low ∷ rest) b e =
     λ i. word_bytes_of_word high low b.1.0 i ++ clause_bytes rest b.1.1 (omega arith) i
 
-pub words_fit : (body : List ℕ) → Bytes body → All (λ code. code < 65536) (words body)
+pub words_fit : (body : List ℕ) → Bytes body → AllByRecursion (λ code. code < 65536) (words body)
 words_fit [] b = tt
 words_fit (x ∷ []) b = tt
 words_fit (high ∷ low ∷ rest) b = (omega arith, words_fit rest b.1.1)

@@ -1,6 +1,6 @@
 -- Where the entries stand in a file that is accepted: each kind in fields of one size, one kind behind the other.
 use Rattle.std.proofs.Common.{◌≡◌, ℕ, suc, ◌+◌, ◌-◌, ◌*◌, ◌<◌, ◌≤◌, List, [], ◌∷◌, ◌++◌, length, take, drop, Ok, Result, sym, refl, ap, ◌∙◌, subst, suc-mul, arith, length-append}
-use Rattle.std.specs.List.{flat_map, AllByRecursion as All}
+use Rattle.std.specs.List.{flat_map, AllByRecursion}
 use Rattle.std.proofs.ByRecursion.{All-weaker}
 use Rattle.std.proofs.lemmas.List.{append_assoc, take_at, drop_at, drop-drop, take_rest}
 use Rattle.refusals.specs.declared.Fault.{Fault}
@@ -43,7 +43,7 @@ module _ {E : Type 0} (tag size : ℕ) (body : E → List ℕ) (sized : (e : E) 
   fields_long [] tail = tt
   fields_long (e ∷ es) tail = (simp length-append (omega (arith, sized e)), subst (Long size (length es)) (sym (behind_first e es tail)) (fields_long es tail))
 
-  fields_read : (said : List ℕ → E) (es : List E) (tail : List ℕ) → All (λ e. said (body e) ≡ e) es
+  fields_read : (said : List ℕ → E) (es : List E) (tail : List ℕ) → AllByRecursion (λ e. said (body e) ≡ e) es
       → entries size said (length es) (fields es ++ tail) ≡ es
   fields_read said [] tail h = refl
   fields_read said (e ∷ es) tail h =
@@ -109,7 +109,7 @@ pub record Accepted (room : Room) (file : List ℕ) (counts : Counts) : Type 0 w
       ++ drop counts.equality_entries table
       ≡ filled_from (λ q. q.equalities) (checked room file) table
 
-pub accepted : (room : Room) (file : List ℕ) (counts : Counts) → All (λ b. b < 256) file
+pub accepted : (room : Room) (file : List ℕ) (counts : Counts) → AllByRecursion (λ b. b < 256) file
     → ◌≡◌ {A = Result Counts Fault} (Ok counts) (map_ok counts_of (checked room file)) → Accepted room file counts
 accepted room file counts b h = subst (Accepted room file) m.2 (go m.0 m.1)
   where

@@ -2,7 +2,7 @@
 use Rattle.std.specs.Prelude.{◌≡◌, ℕ, ◌+◌, ◌/◌, ◌%◌, ◌<◌, ◌≤◌, List, [], ◌∷◌, ◌++◌, length, ℤ, Ok}
 use Rattle.std.specs.Int.{w32}
 use Rattle.std.proofs.Common.{of_z}
-use Rattle.std.specs.List.{flat_map, AllByRecursion as All}
+use Rattle.std.specs.List.{flat_map, AllByRecursion}
 use Rattle.tables.specs.declared.DifferenceEntry.{DifferenceEntry}
 use Rattle.tables.specs.declared.EqualityEntry.{EqualityEntry}
 use Rattle.tables.specs.Entries.{most, DifferenceFits, EqualityFits}
@@ -42,7 +42,7 @@ written q =
 
 -- a clause whose codes fit two bytes each, and whose body's length fits two bytes
 pub record ClauseFits (codes : List ℕ) : Type 0 where
-  pub code_fits : All (λ code. code < 65536) codes
+  pub code_fits : AllByRecursion (λ code. code < 65536) codes
   pub short : length codes < 32768
 
 -- A question within the limits, whose entries have places in the tables. A switch is a variable and an atom.
@@ -51,9 +51,9 @@ pub record Within (room : Room) (q : Contents) : Type 0 where
   pub atoms : length q.differences + length q.equalities + q.switches ≤ most
   pub difference_places : length q.differences ≤ room.differences
   pub equality_places : length q.equalities ≤ room.equalities
-  pub differences_fit : All (DifferenceFits q.difference_variables) q.differences
-  pub equalities_fit : All (EqualityFits q.equality_variables) q.equalities
-  pub clauses_fit : All ClauseFits q.clauses
+  pub differences_fit : AllByRecursion (DifferenceFits q.difference_variables) q.differences
+  pub equalities_fit : AllByRecursion (EqualityFits q.equality_variables) q.equalities
+  pub clauses_fit : AllByRecursion ClauseFits q.clauses
 
 -- A file is accepted exactly when it is the writing of a question within the limits, and then it is read as that question.
 pub record UndoesWriting (room : Room) (file : List ℕ) : Type 0 where

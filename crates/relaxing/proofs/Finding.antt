@@ -4,7 +4,7 @@ use lib.Signed.{≤ℤ_refl}
 use Rattle.std.proofs.ByRecursion.{All-get_or, All-from_get_or}
 use Rattle.std.proofs.lemmas.List.{length-replicate, get_or-replicate, get_or_past}
 use Rattle.std.proofs.lemmas.Bool.{both_ways, cases_lt}
-use Rattle.std.specs.List.{AllByRecursion as All}
+use Rattle.std.specs.List.{AllByRecursion}
 use Rattle.relaxing.specs.declared.Limit.{Limit}
 use Rattle.relaxing.specs.Limits.{at, Met, Fits, NotAbove, Latest, NoTimes, Shallow, moves, passes, latest}
 use Rattle.relaxing.proofs.Passes.{length_passes, passes_falls, passes_above, passes_early, passes_shallow, shallow_more, still_met}
@@ -48,12 +48,12 @@ module _ (ls : List Limit) (n : ℕ) where
   pub latest_when_still : moves ls (latest ls n) ≡ false → Latest ls (latest ls n)
   latest_when_still e = latest_from_still (n - 1) e
 
-  module _ (fits : All (Fits n) ls) where
-    fits_zeros : All (Fits (length (zeros n))) ls
-    fits_zeros = subst (λ k. All (Fits k) ls) (sym (length-replicate n (pos 0))) fits
+  module _ (fits : AllByRecursion (Fits n) ls) where
+    fits_zeros : AllByRecursion (Fits (length (zeros n))) ls
+    fits_zeros = subst (λ k. AllByRecursion (Fits k) ls) (sym (length-replicate n (pos 0))) fits
 
     -- if any times meet the limits, so many passes from zeros are enough
-    pub still_from_zeros : (k : ℕ) → n ≤ k + 1 → (times : List ℤ) → All (Met times) ls → moves ls (passes k ls (zeros n)) ≡ false
+    pub still_from_zeros : (k : ℕ) → n ≤ k + 1 → (times : List ℤ) → AllByRecursion (Met times) ls → moves ls (passes k ls (zeros n)) ≡ false
     still_from_zeros k h times met =
         enough_passes ls times met k (zeros n) fits_zeros (omega (arith, length-replicate n (pos 0)))
 
@@ -62,7 +62,7 @@ module _ (ls : List Limit) (n : ℕ) where
     none_from_moves k h e times same met = both_ways (moves ls (passes k ls (zeros n))) (still_from_zeros k h times met) e
 
     -- if any times meet the limits, `latest` is the latest
-    pub latest_from_met : (times : List ℤ) → All (Met times) ls → Latest ls (latest ls n)
+    pub latest_from_met : (times : List ℤ) → AllByRecursion (Met times) ls → Latest ls (latest ls n)
     latest_from_met times met = latest_from_still (n - 1) (still_from_zeros (n - 1) (omega arith) times met)
 
     -- how far down so many passes go

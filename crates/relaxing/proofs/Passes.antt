@@ -5,12 +5,12 @@ use Rattle.std.proofs.ByRecursion.{All-set, All-get_or, All-weaker}
 use Rattle.std.proofs.lemmas.List.{get_or-set_same, get_or-set_other, set_past}
 use Rattle.std.proofs.lemmas.Int.{ints}
 use Rattle.std.proofs.lemmas.Bool.{cases_Bool, cases_eq, cases_lt, cond-true, cond-false, or_parts, or_from}
-use Rattle.std.specs.List.{AllByRecursion as All}
+use Rattle.std.specs.List.{AllByRecursion}
 use Rattle.relaxing.specs.declared.Limit.{Limit}
 use Rattle.relaxing.specs.Limits.{at, Met, Fits, Shallow, lowers, relaxed, pass, moves, passes}
 
 -- what follows of each element from two facts
-pub all_both_weaker : {X : Type 0} (P Q R : X → Type 0) → ((x : X) → P x → Q x → R x) → (xs : List X) → All P xs → All Q xs → All R xs
+pub all_both_weaker : {X : Type 0} (P Q R : X → Type 0) → ((x : X) → P x → Q x → R x) → (xs : List X) → AllByRecursion P xs → AllByRecursion Q xs → AllByRecursion R xs
 all_both_weaker P Q R f [] p q = tt
 all_both_weaker P Q R f (x ∷ xs) p q = (f x p.0 q.0, all_both_weaker P Q R f xs p.1 q.1)
 
@@ -131,7 +131,7 @@ length_pass [] w = refl
 length_pass (l ∷ ls) w = length_pass ls (relaxed w l) ∙ length_relaxed w l
 
 -- a pass that changes nothing, and limits that are met: each follows from the other
-pub still_met : (ls : List Limit) (w : List ℤ) → moves ls w ≡ false → All (Met w) ls
+pub still_met : (ls : List Limit) (w : List ℤ) → moves ls w ≡ false → AllByRecursion (Met w) ls
 still_met [] w e = tt
 still_met (l ∷ ls) w e =
     let p = or_parts (lowers w l) (moves ls (relaxed w l)) e in
@@ -144,7 +144,7 @@ still_pass (l ∷ ls) w e =
     let same = relaxed_still w l p.0 in
     ap (pass ls) same ∙ still_pass ls w (subst (λ v. moves ls v ≡ false) same p.1)
 
-pub met_still : (ls : List Limit) (w : List ℤ) → All (Met w) ls → moves ls w ≡ false
+pub met_still : (ls : List Limit) (w : List ℤ) → AllByRecursion (Met w) ls → moves ls w ≡ false
 met_still [] w h = refl
 met_still (l ∷ ls) w h =
     let still = still_when_met w l h.0 in
@@ -157,18 +157,18 @@ pass_falls [] w x = ≤ℤ_refl (at w x)
 pass_falls (l ∷ ls) w x = ≤ℤ-trans (pass_falls ls (relaxed w l) x) (relaxed_falls w l x)
 
 -- and goes below no times that meet the limits
-pub pass_above : (ls : List Limit) (w s : List ℤ) → All (Met s) ls → ((x : ℕ) → at s x ≤ℤ at w x)
+pub pass_above : (ls : List Limit) (w s : List ℤ) → AllByRecursion (Met s) ls → ((x : ℕ) → at s x ≤ℤ at w x)
     → (x : ℕ) → at s x ≤ℤ at (pass ls w) x
 pass_above [] w s m h = h
 pass_above (l ∷ ls) w s m h = pass_above ls (relaxed w l) s m.1 (relaxed_above w l s m.0 h)
 
-pub pass_shallow : (ls : List Limit) (w : List ℤ) (deep : ℕ) → All (Fits (length w)) ls → Shallow deep w
+pub pass_shallow : (ls : List Limit) (w : List ℤ) (deep : ℕ) → AllByRecursion (Fits (length w)) ls → Shallow deep w
     → Shallow (deep + length ls * 1000001) (pass ls w)
 pass_shallow [] w deep f h = subst (λ d. Shallow d w) (omega arith) h
 pass_shallow (l ∷ ls) w deep f h =
     subst (λ d. Shallow d (pass ls (relaxed w l))) (omega arith)
     (pass_shallow ls (relaxed w l) (deep + 1000001)
-    (subst (λ n. All (Fits n) ls) (sym (length_relaxed w l)) f.1)
+    (subst (λ n. AllByRecursion (Fits n) ls) (sym (length_relaxed w l)) f.1)
     (relaxed_shallow w l deep f.0 h))
 
 -- one limit more
@@ -213,16 +213,16 @@ pub passes_falls : (n : ℕ) (ls : List Limit) (w : List ℤ) (x : ℕ) → at (
 passes_falls zero ls w x = ≤ℤ_refl (at w x)
 passes_falls (suc n) ls w x = ≤ℤ-trans (passes_falls n ls (pass ls w) x) (pass_falls ls w x)
 
-pub passes_above : (n : ℕ) (ls : List Limit) (w s : List ℤ) → All (Met s) ls → ((x : ℕ) → at s x ≤ℤ at w x)
+pub passes_above : (n : ℕ) (ls : List Limit) (w s : List ℤ) → AllByRecursion (Met s) ls → ((x : ℕ) → at s x ≤ℤ at w x)
     → (x : ℕ) → at s x ≤ℤ at (passes n ls w) x
 passes_above zero ls w s m h = h
 passes_above (suc n) ls w s m h = passes_above n ls (pass ls w) s m (pass_above ls w s m h)
 
-pub passes_shallow : (n : ℕ) (ls : List Limit) (w : List ℤ) (deep : ℕ) → All (Fits (length w)) ls → Shallow deep w
+pub passes_shallow : (n : ℕ) (ls : List Limit) (w : List ℤ) (deep : ℕ) → AllByRecursion (Fits (length w)) ls → Shallow deep w
     → Shallow (deep + n * (length ls * 1000001)) (passes n ls w)
 passes_shallow zero ls w deep f h = shallow_more deep (deep + 0 * (length ls * 1000001)) (omega arith) w h
 passes_shallow (suc n) ls w deep f h =
     shallow_more ((deep + length ls * 1000001) + n * (length ls * 1000001)) (deep + suc n * (length ls * 1000001))
     (omega (arith, suc-mul n (length ls * 1000001))) (passes n ls (pass ls w))
     (passes_shallow n ls (pass ls w) (deep + length ls * 1000001)
-    (subst (λ k. All (Fits k) ls) (sym (length_pass ls w)) f) (pass_shallow ls w deep f h))
+    (subst (λ k. AllByRecursion (Fits k) ls) (sym (length_pass ls w)) f) (pass_shallow ls w deep f h))

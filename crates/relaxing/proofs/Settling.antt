@@ -7,7 +7,7 @@ use Rattle.std.proofs.ByRecursion.{All-weaker}
 use Rattle.std.proofs.lemmas.List.{get_or-set_same}
 use Rattle.std.proofs.lemmas.Int.{ints, by_lt_z}
 use Rattle.std.proofs.lemmas.Bool.{cases_Bool, eqb-true, eqb-false, eq-eqb, or_cases, or_parts, or_left, or_right, or_from, both_ways}
-use Rattle.std.specs.List.{AllByRecursion as All}
+use Rattle.std.specs.List.{AllByRecursion}
 use Rattle.relaxing.specs.declared.Limit.{Limit}
 use Rattle.relaxing.specs.Limits.{at, Met, Fits, lowers, relaxed, pass, moves, passes}
 use Rattle.relaxing.proofs.Passes.{≤ℤ-trans, relaxed_lower, relaxed_still, met_when_still, still_when_met, relaxed_cases, relaxed_falls, length_relaxed, length_pass, met_still, passes_still, all_both_weaker}
@@ -200,34 +200,34 @@ module _ (s : List ℤ) (m : ℕ) where
       | inr e ↦ subst (λ v. Met v l) (sym (relaxed_still w l e)) (met_when_still w l e)
     ]
 
-  stepped_pass : (ls : List Limit) (w : List ℤ) → All (Met s) ls → All (Safe s m w) ls → Stepped s m w (pass ls w)
+  stepped_pass : (ls : List Limit) (w : List ℤ) → AllByRecursion (Met s) ls → AllByRecursion (Safe s m w) ls → Stepped s m w (pass ls w)
   stepped_pass [] w met safe = stepped_none w
   stepped_pass (l ∷ ls) w met safe =
       let one = step w l met.0 safe.0 in
       stepped_on one (stepped_pass ls (relaxed w l) met.1 (All-weaker (Safe s m w) (Safe s m (relaxed w l)) (safe_kept one) ls safe.1))
 
-  pass_met : (ls : List Limit) (w : List ℤ) → All (Fits (length w)) ls → All (Met s) ls → All (Safe s m w) ls
-      → All (λ l. slack s w l.b ≤ℤ slack s w m → Met (pass ls w) l) ls
+  pass_met : (ls : List Limit) (w : List ℤ) → AllByRecursion (Fits (length w)) ls → AllByRecursion (Met s) ls → AllByRecursion (Safe s m w) ls
+      → AllByRecursion (λ l. slack s w l.b ≤ℤ slack s w m → Met (pass ls w) l) ls
   pass_met [] w fits met safe = tt
   pass_met (l ∷ ls) w fits met safe =
       let one = step w l met.0 safe.0 in
       let v : List ℤ = relaxed w l in
-      let safe' : All (Safe s m v) ls = All-weaker (Safe s m w) (Safe s m v) (safe_kept one) ls safe.1 in (
+      let safe' : AllByRecursion (Safe s m v) ls = All-weaker (Safe s m w) (Safe s m v) (safe_kept one) ls safe.1 in (
         λ h. met_kept (stepped_pass ls v met.1 safe') l (near_kept one l.b h) (step_met w l met.0 safe.0 fits.0.a_below h),
         All-weaker (λ l. slack s v l.b ≤ℤ slack s v m → Met (pass ls v) l) (λ l. slack s w l.b ≤ℤ slack s w m → Met (pass ls v) l)
             (λ l k h. k (near_kept one l.b h)) ls
-            (pass_met ls v (subst (λ n. All (Fits n) ls) (sym (length_relaxed w l)) fits.1) met.1 safe'),
+            (pass_met ls v (subst (λ n. AllByRecursion (Fits n) ls) (sym (length_relaxed w l)) fits.1) met.1 safe'),
       )
 
 -- ---- one variable more with each pass
 
 -- A limit whose b is settled is met, and no settled variable has a greater slack than an unsettled one.
 record Settled (ls : List Limit) (s : List ℤ) (unsettled : List ℕ) (w : List ℤ) : Type 0 where
-  met : All (λ l. among unsettled l.b ≡ false → Met w l) ls
+  met : AllByRecursion (λ l. among unsettled l.b ≡ false → Met w l) ls
   apart : (x y : ℕ) → x < length w → among unsettled x ≡ false → among unsettled y ≡ true → slack s w x ≤ℤ slack s w y
 
-module _ (ls : List Limit) (s : List ℤ) (met : All (Met s) ls) where
-  settled_none : (w : List ℤ) → All (Fits (length w)) ls → Settled ls s (below (length w)) w
+module _ (ls : List Limit) (s : List ℤ) (met : AllByRecursion (Met s) ls) where
+  settled_none : (w : List ℤ) → AllByRecursion (Fits (length w)) ls → Settled ls s (below (length w)) w
   settled_none w fits =
       record {
         met = All-weaker (Fits (length w)) (λ l. among (below (length w)) l.b ≡ false → Met w l)
@@ -238,7 +238,7 @@ module _ (ls : List Limit) (s : List ℤ) (met : All (Met s) ls) where
       not_settled : (x : ℕ) → x < length w → among (below (length w)) x ≡ false → ⊥
       not_settled x h e = both_ways (among (below (length w)) x) e (among_below (length w) x h)
 
-  module _ (w : List ℤ) (fits : All (Fits (length w)) ls) where
+  module _ (w : List ℤ) (fits : AllByRecursion (Fits (length w)) ls) where
     module _ (xs : List ℕ) (j : Settled ls s xs w) (r : Least (slack s w) xs) where
       near : (x : ℕ) → x < length w → among r.others x ≡ false → slack s w x ≤ℤ slack s w r.one
       near x h e = elim (r.none_else x e) [
@@ -246,7 +246,7 @@ module _ (ls : List Limit) (s : List ℤ) (met : All (Met s) ls) where
         | inr k ↦ j.apart x r.one h k r.one_among
       ]
 
-      safe : All (Safe s r.one w) ls
+      safe : AllByRecursion (Safe s r.one w) ls
       safe = all_both_weaker (Fits (length w)) (λ l. among xs l.b ≡ false → Met w l) (Safe s r.one w)
           (λ l f k. elim (cases_Bool (among xs l.b)) [
             | inl e ↦ inr (r.least l.b e)
@@ -269,7 +269,7 @@ module _ (ls : List Limit) (s : List ℤ) (met : All (Met s) ls) where
           }
 
     -- with at most one variable left, all limits are met
-    settled_last : (xs : List ℕ) → length xs ≤ 1 → Settled ls s xs w → All (Met w) ls
+    settled_last : (xs : List ℕ) → length xs ≤ 1 → Settled ls s xs w → AllByRecursion (Met w) ls
     settled_last [] h j = All-weaker (λ l. among [] l.b ≡ false → Met w l) (Met w) (λ l k. k refl) ls j.met
     settled_last (x ∷ []) h j =
         all_both_weaker (λ l. Fits (length w) l × Met s l) (λ l. among (x ∷ []) l.b ≡ false → Met w l) (Met w)
@@ -286,19 +286,19 @@ module _ (ls : List Limit) (s : List ℤ) (met : All (Met s) ls) where
             ordered_met (at w l.a) (at w l.b) (at s l.a) (at s l.b) l.weight p.1 low
     settled_last (x ∷ y ∷ ys) h j = absurd (omega arith)
 
-  settled_passes : (k : ℕ) (xs : List ℕ) (w : List ℤ) → All (Fits (length w)) ls → length xs ≤ suc k → Settled ls s xs w
-      → All (Met (passes k ls w)) ls
+  settled_passes : (k : ℕ) (xs : List ℕ) (w : List ℤ) → AllByRecursion (Fits (length w)) ls → length xs ≤ suc k → Settled ls s xs w
+      → AllByRecursion (Met (passes k ls w)) ls
   settled_passes zero xs w fits h j = settled_last w fits xs h j
   settled_passes (suc k) [] w fits h j =
       let all = settled_last w fits [] (omega arith) j in
-      subst (λ v. All (Met v) ls) (sym (passes_still (suc k) ls w (met_still ls w all))) all
+      subst (λ v. AllByRecursion (Met v) ls) (sym (passes_still (suc k) ls w (met_still ls w all))) all
   settled_passes (suc k) (x ∷ xs) w fits h j =
       let r = least_of (slack s w) x xs in
-      settled_passes k r.others (pass ls w) (subst (λ n. All (Fits n) ls) (sym (length_pass ls w)) fits)
+      settled_passes k r.others (pass ls w) (subst (λ n. AllByRecursion (Fits n) ls) (sym (length_pass ls w)) fits)
       (omega (arith, r.shorter)) (settled_more w fits (x ∷ xs) j r)
 
   -- If any times meet the limits, one pass less than there are times is enough.
-  pub enough_passes : (k : ℕ) (w : List ℤ) → All (Fits (length w)) ls → length w ≤ k + 1 → moves ls (passes k ls w) ≡ false
+  pub enough_passes : (k : ℕ) (w : List ℤ) → AllByRecursion (Fits (length w)) ls → length w ≤ k + 1 → moves ls (passes k ls w) ≡ false
   enough_passes k w fits h =
       met_still ls (passes k ls w)
       (settled_passes k (below (length w)) w fits (omega (arith, length_below (length w))) (settled_none w fits))

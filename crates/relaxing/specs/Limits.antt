@@ -1,6 +1,6 @@
 -- Limits on the differences of times, and the latest times that meet them.
 use Rattle.std.specs.Prelude.{◌≡◌, ℕ, zero, suc, ◌-◌, ◌<◌, Bool, false, cond, ◌||◌, List, [], ◌∷◌, length, replicate, ℤ, pos, negsuc, ◌+ℤ◌, ◌-ℤ◌, neg_ℤ, ◌≤ℤ◌, int_lt, slice_index_or, slice_set}
-use Rattle.std.specs.List.{AllByRecursion as All}
+use Rattle.std.specs.List.{AllByRecursion}
 use Rattle.relaxing.specs.declared.Limit.{Limit}
 
 -- the time of a variable
@@ -20,18 +20,18 @@ pub record Fits (variables : ℕ) (l : Limit) : Type 0 where
 
 -- no time above 0
 abbrev pub NotAbove : List ℤ → Type 0
-NotAbove times = All (λ z. z ≤ℤ pos 0) times
+NotAbove times = AllByRecursion (λ z. z ≤ℤ pos 0) times
 
 -- The latest times: they meet the limits, none is above 0, and no other such times are later anywhere.
 pub record Latest (limits : List Limit) (times : List ℤ) : Type 0 where
-  pub met : All (Met times) limits
+  pub met : AllByRecursion (Met times) limits
   pub not_above : NotAbove times
-  pub latest_of_all : (others : List ℤ) → length others ≡ length times → NotAbove others → All (Met others) limits
+  pub latest_of_all : (others : List ℤ) → length others ≡ length times → NotAbove others → AllByRecursion (Met others) limits
       → (x : ℕ) → x < length times → at others x ≤ℤ at times x
 
 -- no times at all meet the limits
 abbrev pub NoTimes : List Limit → ℕ → Type 0
-NoTimes limits variables = (times : List ℤ) → length times ≡ variables → All (Met times) limits → ⊥
+NoTimes limits variables = (times : List ℤ) → length times ≡ variables → AllByRecursion (Met times) limits → ⊥
 
 -- How the latest times are found: where a limit is not met, the time of a is lowered until it is.
 
@@ -60,4 +60,4 @@ latest limits variables = passes (variables - 1) limits (replicate variables (po
 
 -- no time above 0, and none more than so many ticks below
 abbrev pub Shallow : ℕ → List ℤ → Type 0
-Shallow deep times = All (λ z. (neg_ℤ (pos deep) ≤ℤ z) × (z ≤ℤ pos 0)) times
+Shallow deep times = AllByRecursion (λ z. (neg_ℤ (pos deep) ≤ℤ z) × (z ≤ℤ pos 0)) times

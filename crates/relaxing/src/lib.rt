@@ -2,7 +2,7 @@
 #![tactic(auto)]
 
 ghost use Rattle.std.specs.Prelude.{◌≡◌, ℕ, ◌+◌, ◌*◌, ◌≤◌, length, MatchBool};
-ghost use Rattle.std.specs.List.{AllByRecursion as All};
+ghost use Rattle.std.specs.List.{AllByRecursion};
 ghost use Rattle.relaxing.specs.Limits.{Fits, Shallow, lowers, relaxed, moves, pass, latest, Latest, NoTimes};
 
 use theory::stack::Record;
@@ -42,7 +42,7 @@ fn relax_one(limit: Limit, times: &mut [i64]) -> bool
 
 // One pass over the limits, each change counting at once. Says whether anything changed.
 fn relax_pass(limits: &[Limit], times: &mut [i64]) -> bool
-    requires fits { All (Fits (length times.old)) limits.now }
+    requires fits { AllByRecursion (Fits (length times.old)) limits.now }
     requires shallow { (deep : ℕ) × Shallow deep times.old × (deep + length limits.now * 1000001 ≤ 1000000000000) }
     ensures moved { result ≡ moves limits.now times.old }
     ensures after { times.new ≡ pass limits.now times.old }
@@ -58,7 +58,7 @@ fn relax_pass(limits: &[Limit], times: &mut [i64]) -> bool
 // them, and leaves what the last pass made of them. A cycle of limits whose sum is below zero has no times; it shows by a
 // change in as many passes as there are times.
 pub fn relax(limits: &[Limit], times: &mut [i64]) -> bool
-    requires fits { All (Fits (length times.old)) limits.now }
+    requires fits { AllByRecursion (Fits (length times.old)) limits.now }
     requires few { (length limits.now ≤ 513) × (length times.old ≤ 512) }
     ensures latest { MatchBool result (Latest limits.now times.new) (NoTimes limits.now (length times.old)) }
     ensures after { MatchBool result (times.new ≡ latest limits.now (length times.old)) (times.new ≡ pass limits.now (latest limits.now (length times.old))) }

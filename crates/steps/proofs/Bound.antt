@@ -1,6 +1,6 @@
 -- A search with its resumes counts at most 2^n - 1 decisions: what is left to decide falls with each.
 use Rattle.std.proofs.Common.{◌≡◌, ℕ, suc, ◌+◌, ◌*◌, ◌≤◌, true, List, [], ◌∷◌, ap, arith}
-use Rattle.std.specs.List.{AllByRecursion as All}
+use Rattle.std.specs.List.{AllByRecursion}
 use Rattle.theory.specs.Meaning.{Meaning, Lawful}
 use Rattle.steps.specs.Calls.{are_atoms_below}
 use Rattle.steps.specs.Clauses.{Clause, opposite, LowestUnset}
@@ -40,7 +40,7 @@ one_left n set a low =
     let fresh = (fresh_lowest n set a low).0 in
     omega (arith, full_less (unset n set) (unset n (2 * a ∷ set)) (unset_push n (2 * a) set fresh.0 fresh.1))
 
-module _ (m : Meaning) (lawful : Lawful m) (clauses : List Clause) (below : All (λ clause. are_atoms_below m.atoms clause ≡ true) clauses) where
+module _ (m : Meaning) (lawful : Lawful m) (clauses : List Clause) (below : AllByRecursion (λ clause. are_atoms_below m.atoms clause ≡ true) clauses) where
   pub step_bound : {grant : ℕ} {s s' : Spot} → Step m clauses grant s s' → Sound m lawful clauses below s
       → count_of s' + left_to_decide m.atoms s' ≤ count_of s + left_to_decide m.atoms s
   step_bound (fail dead) o = omega arith

@@ -3,7 +3,7 @@ use Rattle.std.proofs.Common.{◌≡◌, ℕ, ◌+◌, ◌≤◌, true, not, Lis
 use Rattle.std.proofs.ByRecursion.{All-push}
 use Rattle.std.proofs.lemmas.List.{length-replicate}
 use Rattle.std.proofs.lemmas.Bool.{cases_Bool, cond-true, not_from_false}
-use Rattle.std.specs.List.{AllByRecursion as All}
+use Rattle.std.specs.List.{AllByRecursion}
 use Rattle.refusals.specs.declared.Refusal.TheVariants.{NoSuchAtom}
 use Rattle.theory.specs.Meaning.{Meaning, Lawful, WorldOf}
 use Rattle.steps.specs.Calls.{Event, State, open_with, paused_at, found_at, closed, are_atoms_below, post_ground, state_after, Does, refused, posted, searched, resumed, read, ended_paused, ended_found, closing, History, opening, next}
@@ -34,7 +34,7 @@ posted_below atoms clauses clause e =
 
 module _ (m : Meaning) (lawful : Lawful m) where
   abbrev Below : List Clause → Type 0
-  Below clauses = All (λ clause. are_atoms_below m.atoms clause ≡ true) clauses
+  Below clauses = AllByRecursion (λ clause. are_atoms_below m.atoms clause ≡ true) clauses
 
   -- a search that starts over has every number before it
   start_sound : (clauses : List Clause) (below : Below clauses) → Sound m lawful clauses below (looking [] 0)

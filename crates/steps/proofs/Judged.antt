@@ -2,7 +2,7 @@
 use Rattle.std.proofs.Common.{◌≡◌, ℕ, ◌+◌, ◌-◌, ◌/◌, ◌%◌, ◌<◌, true, false, cond, not, ◌||◌, eqb, ltb, ◌⊎◌, List, [], ◌∷◌, length, ℤ, Some, None, Option, sym, refl, ap, ◌∙◌, subst, inl, inr, ⊎_elim, arith}
 use Rattle.std.proofs.lemmas.Bool.{and_parts, or_parts, cond_both, eqb-true, eqb-false, ne_eqb, ltb-true, or_from, or_cases, or_left, or_right, and_cases, false≢true, not-true, not-false, both_ways, cases_Bool, cond-true, cond-false}
 use Rattle.std.proofs.lemmas.Bool.Decides.{nat_tests}
-use Rattle.std.specs.List.{AllByRecursion as All}
+use Rattle.std.specs.List.{AllByRecursion}
 use Rattle.theory.specs.Meaning.{Meaning, Lawful, AllHold, atom_of, has, names}
 use Rattle.steps.specs.Calls.{are_atoms_below}
 use Rattle.steps.specs.Clauses.{Clause, opposite, is_true, is_false, dead, due, some_dead, or_else, first_due, holds_in, AllSet}
@@ -92,16 +92,16 @@ module _ (m : Meaning) (w : List ℤ) where
         (cases_Bool (is_false set x))
 
     -- where all clauses hold, none is dead, and the first due literal holds
-    pub none_dead_where_all_hold : (clauses : List Clause) → All (λ clause. are_atoms_below m.atoms clause ≡ true) clauses
-        → All (λ clause. holds_in m w clause ≡ true) clauses → some_dead set clauses ≡ false
+    pub none_dead_where_all_hold : (clauses : List Clause) → AllByRecursion (λ clause. are_atoms_below m.atoms clause ≡ true) clauses
+        → AllByRecursion (λ clause. holds_in m w clause ≡ true) clauses → some_dead set clauses ≡ false
     none_dead_where_all_hold [] below h = refl
     none_dead_where_all_hold (clause ∷ clauses) below h =
         or_from (dead set clause) (some_dead set clauses)
         (⊎_elim (λ d. absurd (both_ways (holds_in m w clause) (dead_fails clause below.0 d) h.0)) (λ alive. alive) (cases_Bool (dead set clause)))
         (none_dead_where_all_hold clauses below.1 h.1)
 
-    pub first_due_holds : (clauses : List Clause) (l : ℕ) → All (λ clause. are_atoms_below m.atoms clause ≡ true) clauses
-        → All (λ clause. holds_in m w clause ≡ true) clauses → first_due set clauses ≡ Some l → m.holds l w ≡ true
+    pub first_due_holds : (clauses : List Clause) (l : ℕ) → AllByRecursion (λ clause. are_atoms_below m.atoms clause ≡ true) clauses
+        → AllByRecursion (λ clause. holds_in m w clause ≡ true) clauses → first_due set clauses ≡ Some l → m.holds l w ≡ true
     first_due_holds [] l below h d = absurd (none≢some d)
     first_due_holds (clause ∷ clauses) l below h d =
         ⊎_elim (λ here. due_holds clause l below.0 here h.0) (λ later. first_due_holds clauses l below.1 h.1 later)
@@ -120,7 +120,7 @@ due_facts atoms set (x ∷ clause) l below d =
     (subst (λ c. atom_of c < atoms) u.0 (ltb-true (atom_of x) atoms p.0), subst (λ c. names set (atom_of c) ≡ false) u.0 (names_has set x u.1 f)))
     (cases_Bool (is_false set x))
 
-pub first_due_facts : (atoms : ℕ) (set : List ℕ) (clauses : List Clause) (l : ℕ) → All (λ clause. are_atoms_below atoms clause ≡ true) clauses
+pub first_due_facts : (atoms : ℕ) (set : List ℕ) (clauses : List Clause) (l : ℕ) → AllByRecursion (λ clause. are_atoms_below atoms clause ≡ true) clauses
     → first_due set clauses ≡ Some l → (atom_of l < atoms) × (names set (atom_of l) ≡ false)
 first_due_facts atoms set [] l below d = absurd (none≢some d)
 first_due_facts atoms set (clause ∷ clauses) l below d =
@@ -142,7 +142,7 @@ alive_holds m set w hold all (l ∷ clause) below alive =
     (cases_Bool (is_true set l))
 
 pub all_alive_hold : (m : Meaning) (set : List ℕ) (w : List ℤ) → AllHold m set w → AllSet m.atoms set → (clauses : List Clause)
-    → All (λ clause. are_atoms_below m.atoms clause ≡ true) clauses → some_dead set clauses ≡ false → All (λ clause. holds_in m w clause ≡ true) clauses
+    → AllByRecursion (λ clause. are_atoms_below m.atoms clause ≡ true) clauses → some_dead set clauses ≡ false → AllByRecursion (λ clause. holds_in m w clause ≡ true) clauses
 all_alive_hold m set w hold all [] below alive = tt
 all_alive_hold m set w hold all (clause ∷ clauses) below alive =
     let p = or_parts (dead set clause) (some_dead set clauses) alive in

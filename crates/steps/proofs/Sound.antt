@@ -2,7 +2,7 @@
 -- clauses are still to be met on the trail or on the other side of one of its decisions.
 use Rattle.std.proofs.Common.{◌≡◌, ℕ, ◌+◌, ◌*◌, ◌/◌, ◌<◌, true, false, not, ◌&&◌, ltb, ◌⊎◌, List, [], ◌∷◌, ℤ, sym, refl, ap, ◌∙◌, subst, inl, inr, ⊎_elim, arith}
 use Rattle.std.proofs.lemmas.Bool.{and_parts, and_from, both_ways, cases_Bool, lt-ltb, ltb-true, not-true, not_from_false}
-use Rattle.std.specs.List.{AllByRecursion as All}
+use Rattle.std.specs.List.{AllByRecursion}
 use Rattle.theory.specs.Meaning.{Meaning, Lawful, AllHold, NoWorld, atom_of, names, different, HasWorld}
 use Rattle.steps.specs.Calls.{are_atoms_below}
 use Rattle.steps.specs.Clauses.{Clause, opposite, LowestUnset, Satisfies}
@@ -83,7 +83,7 @@ module _ (m : Meaning) (lawful : Lawful m) where
       })
       (cases_Bool (m.holds c w))
 
-  module _ (clauses : List Clause) (below : All (λ clause. are_atoms_below m.atoms clause ≡ true) clauses) where
+  module _ (clauses : List Clause) (below : AllByRecursion (λ clause. are_atoms_below m.atoms clause ≡ true) clauses) where
     pub record Sound (s : Spot) : Type 0 where
       pub has_world : HasWorld m (codes_of (trail_of s))
       pub apart : different m.atoms (codes_of (trail_of s)) ≡ true

@@ -1,6 +1,6 @@
 -- Every search ends: each step lowers a weight of the spot.
 use Rattle.std.proofs.Common.{◌≡◌, ℕ, zero, suc, ◌+◌, ◌*◌, ◌<◌, ◌≤◌, true, List, [], ◌∷◌, ap, arith}
-use Rattle.std.specs.List.{AllByRecursion as All}
+use Rattle.std.specs.List.{AllByRecursion}
 use Rattle.theory.specs.Meaning.{Meaning}
 use Rattle.steps.specs.Calls.{are_atoms_below}
 use Rattle.steps.specs.Clauses.{Clause, opposite}
@@ -37,7 +37,7 @@ heft_some (suc k) = omega arith
 heft_less : (j k : ℕ) → j ≡ suc k → heft j ≡ heft k + heft k + 3
 heft_less j k e = ap heft e
 
-module _ (m : Meaning) (clauses : List Clause) (below : All (λ clause. are_atoms_below m.atoms clause ≡ true) clauses) where
+module _ (m : Meaning) (clauses : List Clause) (below : AllByRecursion (λ clause. are_atoms_below m.atoms clause ≡ true) clauses) where
   pub step_lowers : {grant : ℕ} {s s' : Spot} → Step m clauses grant s s' → weight m.atoms s' < weight m.atoms s
   step_lowers (fail {t} dead) = omega (arith, heft_some (unset m.atoms (codes_of t)))
   step_lowers (force {t} {k} {l} d has) =

@@ -1,6 +1,6 @@
 -- Clauses under set literals: true and false literals, dead clauses, due literals.
 use Rattle.std.specs.Prelude.{◌≡◌, ℕ, ◌+◌, ◌-◌, ◌%◌, ◌<◌, Bool, true, false, cond, not, ◌&&◌, ◌||◌, List, [], ◌∷◌, length, ℤ, Some, None, Option, ◌==◌}
-use Rattle.std.specs.List.{AllByRecursion as All}
+use Rattle.std.specs.List.{AllByRecursion}
 use Rattle.theory.specs.Meaning.{Meaning, has, names}
 
 -- A clause is a list of literal codes. It asks that one of them holds.
@@ -59,7 +59,7 @@ holds_in m world (literal ∷ clause) = m.holds literal world || holds_in m worl
 -- whole numbers in which every clause has a literal that holds
 pub record Satisfies (m : Meaning) (clauses : List Clause) (world : List ℤ) : Type 0 where
   pub whole : length world ≡ m.variables
-  pub all_hold : All (λ clause. holds_in m world clause ≡ true) clauses
+  pub all_hold : AllByRecursion (λ clause. holds_in m world clause ≡ true) clauses
 
 abbrev pub Unsatisfiable : Meaning → List Clause → Type 0
 Unsatisfiable m clauses = (world : List ℤ) → Satisfies m clauses world → ⊥

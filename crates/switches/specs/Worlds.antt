@@ -5,12 +5,12 @@ use Rattle.std.proofs.lemmas.List.FromFn.{length-map-range_with_len, get_or-map-
 use Rattle.std.proofs.ByRecursion.{all_has_itself, All-weaker}
 use Rattle.std.proofs.lemmas.Bool.{false≢true}
 use Rattle.std.proofs.lemmas.Bool.Decides.{nat_tests, Decides-eqb, Decides-by_or}
-use Rattle.std.specs.List.{ContainsAt as Has, AllByRecursion as All}
+use Rattle.std.specs.List.{ContainsAt as Has, AllByRecursion}
 use Rattle.theory.specs.Meaning.{atom_of, has, names, different, WorldOf}
 use Rattle.switches.specs.Switching.{switch_holds, switch_meaning, switch_of, switch_world}
 
 -- each literal is among them
-has_itself : (codes : List ℕ) → All (λ code. has codes code ≡ true) codes
+has_itself : (codes : List ℕ) → AllByRecursion (λ code. has codes code ≡ true) codes
 has_itself codes =
     All-weaker (Has codes) (λ code. has codes code ≡ true)
     (λ code. (Decides-by_or (λ x. nat_eq x code) (λ x. x ≡ code) (λ xs. has xs code) (λ x. Decides-eqb x code) refl (λ _ _. refl) codes).1) codes (all_has_itself codes)

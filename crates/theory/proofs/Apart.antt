@@ -3,7 +3,7 @@ use Rattle.std.proofs.Common.{◌≡◌, ℕ, zero, suc, ◌<◌, ◌≤◌, tru
 use Rattle.std.proofs.lemmas.Bool.{and_parts, and_from, or_parts, or_from, not-true, not_from_false, ltb-true, lt-ltb, eqb-true, eqb-false, cond_both}
 use Rattle.std.proofs.lemmas.List.{length_push}
 use Rattle.std.proofs.lemmas.Bool.Decides.{nat_tests}
-use Rattle.std.specs.List.{AllByRecursion as All}
+use Rattle.std.specs.List.{AllByRecursion}
 use Rattle.theory.specs.Meaning.{atom_of, names, different}
 
 names_push : (codes : List ℕ) (code atom : ℕ) → names (codes ++ (code ∷ [])) atom ≡ (names codes atom || eqb (atom_of code) atom)
@@ -101,7 +101,7 @@ different_room atoms codes code d n l =
     let h = different_few atoms (codes ++ (code ∷ [])) (different_push atoms codes code d n l) in omega (arith, length_push codes code)
 
 -- the codes are of atoms that there are
-pub different_below : (atoms : ℕ) (codes : List ℕ) → different atoms codes ≡ true → All (λ code. atom_of code < atoms) codes
+pub different_below : (atoms : ℕ) (codes : List ℕ) → different atoms codes ≡ true → AllByRecursion (λ code. atom_of code < atoms) codes
 different_below atoms [] d = tt
 different_below atoms (code ∷ codes) d =
     let p = and_parts (ltb (atom_of code) atoms) (not (names codes (atom_of code)) && different atoms codes) d in

@@ -2,9 +2,9 @@
 use Rattle.std.proofs.Common.{◌≡◌, ℕ, List, [], ◌∷◌, ◌++◌, map, take, sym, ap, ◌∙◌, subst}
 use Rattle.std.proofs.ByRecursion.{All-map}
 use Rattle.std.proofs.lemmas.List.{map_push, take-map}
-use Rattle.std.specs.List.{AllByRecursion as All}
+use Rattle.std.specs.List.{AllByRecursion}
 
-pub all_unmap : {X Y : Type 0} (P : Y → Type 0) (f : X → Y) (xs : List X) → All P (map f xs) → All (λ x. P (f x)) xs
+pub all_unmap : {X Y : Type 0} (P : Y → Type 0) (f : X → Y) (xs : List X) → AllByRecursion P (map f xs) → AllByRecursion (λ x. P (f x)) xs
 all_unmap P f [] h = tt
 all_unmap P f (x ∷ xs) h = (h.0, all_unmap P f xs h.1)
 
@@ -23,8 +23,8 @@ module _ {R : Type 0} (coded : R → ℕ) (draw : ℕ → R) (xs : List R) where
     drawn_take k = ap (take k) drawn ∙ take-map draw k (map coded xs) ∙ ap (map draw) (take-map coded k xs)
 
     -- what holds of what each code asks for holds of each record, and the other way round
-    pub all_records : (P : R → Type 0) → All (λ code. P (draw code)) (map coded xs) → All P xs
-    all_records P h = subst (All P) (sym drawn) (All-map P draw (map coded xs) h)
+    pub all_records : (P : R → Type 0) → AllByRecursion (λ code. P (draw code)) (map coded xs) → AllByRecursion P xs
+    all_records P h = subst (AllByRecursion P) (sym drawn) (All-map P draw (map coded xs) h)
 
-    pub all_codes : (P : R → Type 0) → All P xs → All (λ code. P (draw code)) (map coded xs)
-    all_codes P h = all_unmap P draw (map coded xs) (subst (All P) drawn h)
+    pub all_codes : (P : R → Type 0) → AllByRecursion P xs → AllByRecursion (λ code. P (draw code)) (map coded xs)
+    all_codes P h = all_unmap P draw (map coded xs) (subst (AllByRecursion P) drawn h)

@@ -1,6 +1,6 @@
 -- What a theory means, and the law that each theory shows.
 use Rattle.std.specs.Prelude.{◌≡◌, ℕ, ◌+◌, ◌*◌, ◌/◌, ◌<◌, ◌≤◌, Bool, true, false, not, ◌&&◌, ◌||◌, List, [], ◌∷◌, length, ℤ, ◌==◌, nat_lt}
-use Rattle.std.specs.List.{AllByRecursion as All}
+use Rattle.std.specs.List.{AllByRecursion}
 
 -- Atoms and variables are numbered from 0. A literal's code is twice its atom's number for the atom itself, and one more
 -- for the opposite. A world gives each variable a whole number.
@@ -22,7 +22,7 @@ pub record Lawful (m : Meaning) : Type 0 where
 
 -- all of the literals hold in the world
 abbrev pub AllHold : Meaning → List ℕ → List ℤ → Type 0
-AllHold m literals world = All (λ code. m.holds code world ≡ true) literals
+AllHold m literals world = AllByRecursion (λ code. m.holds code world ≡ true) literals
 
 -- a world in which all of the literals hold
 pub record WorldOf (m : Meaning) (literals : List ℕ) (world : List ℤ) : Type 0 where

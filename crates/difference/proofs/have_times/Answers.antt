@@ -1,5 +1,5 @@
 use Rattle.std.proofs.Common.{◌≡◌, ℕ, ◌≤◌, Bool, true, false, List, length, take, replicate, ℤ, pos, MatchBool, sym, ap, ◌∙◌, subst, arith}
-use Rattle.std.specs.List.{AllByRecursion as All}
+use Rattle.std.specs.List.{AllByRecursion}
 use Rattle.std.proofs.lemmas.List.{length-take-le}
 use Rattle.relaxing.specs.declared.Limit.{Limit}
 use Rattle.relaxing.specs.Limits.{Fits, Latest, NoTimes, moves, pass, latest}
@@ -20,7 +20,7 @@ pub relax-requires : goal.relax-requires
 relax-requires c =
     let e = part c.args.variables c.requires.few.1 in
     record {
-      fits = subst (λ n. All (Fits n) c.args.limits.now) (sym e) c.requires.fits;
+      fits = subst (λ n. AllByRecursion (Fits n) c.args.limits.now) (sym e) c.requires.fits;
       few = (c.requires.few.0, omega (arith, e, c.requires.few.1));
     }
 

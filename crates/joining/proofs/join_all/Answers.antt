@@ -2,7 +2,7 @@ use Rattle.std.proofs.Common.{◌≡◌, ℕ, ◌+◌, ◌<◌, Bool, true, fals
 use Rattle.std.proofs.ByRecursion.{All-get_or}
 use Rattle.std.proofs.lemmas.List.{at_drop_all, at_drop_more, take_all, take_more, take_more_set}
 use Rattle.std.proofs.lemmas.Int.{ints}
-use Rattle.std.specs.List.{AllByRecursion as All}
+use Rattle.std.specs.List.{AllByRecursion}
 use Rattle.joining.specs.declared.Join.{Join}
 use Rattle.joining.specs.Joins.{Fits, Lowest, join_holds, joined_by, joined_by_all, numbers, labelled, agrees}
 use Rattle.joining.proofs.Chains.{holds_from_agrees}
@@ -25,7 +25,7 @@ loop-x-preserved c =
     ∙ numbers_push 0 x
 
 -- the join at an index
-fits_at : (js : List Join) (n i m : ℕ) → All (Fits n) js → i < length js → m ≡ n → Fits m (get_or js i none)
+fits_at : (js : List Join) (n i m : ℕ) → AllByRecursion (Fits n) js → i < length js → m ≡ n → Fits m (get_or js i none)
 fits_at js n i m fits h e = subst (λ k. Fits k (get_or js i none)) (sym e) (All-get_or (Fits n) js i none h fits)
 
 pub join_one-requires : goal.join_one-requires

@@ -1,6 +1,6 @@
 -- A question that is written: each of its fields is read as it was written.
 use Rattle.std.proofs.Common.{◌≡◌, ℕ, zero, suc, ◌+◌, ◌<◌, ◌≤◌, List, [], ◌∷◌, ◌++◌, length, Some, None, Ok, sym, refl, ap, ◌∙◌, subst, arith}
-use Rattle.std.specs.List.{flat_map, AllByRecursion as All}
+use Rattle.std.specs.List.{flat_map, AllByRecursion}
 use Rattle.std.proofs.lemmas.List.{append-nil, append_assoc, length-append, length_push}
 use Rattle.question_file.specs.declared.check.Room.{Room}
 use Rattle.question_file.specs.declared.check.Tag.{Tag}
@@ -85,7 +85,7 @@ module _ (room : Room) (file : List ℕ) where
     abbrev fields : List X → List ℕ
     fields xs = flat_map (λ x. field_bytes (tag_number t) (body x)) xs
 
-    reaches_all : (xs ys : List X) (rest : List ℕ) → length xs + length ys ≤ most → All Good ys
+    reaches_all : (xs ys : List X) (rest : List ℕ) → length xs + length ys ≤ most → AllByRecursion Good ys
         → Reaches room file (tag_number t) (at xs) (fields ys ++ rest) → Reaches room file (tag_number t) (at (xs ++ ys)) rest
     reaches_all xs [] rest l g r = subst (λ xs. Reaches room file (tag_number t) (at xs) rest) (sym (append-nil xs)) r
     reaches_all xs (x ∷ ys) rest l g r =

@@ -1,6 +1,6 @@
 use Rattle.std.proofs.Common.{◌≡◌, ℕ, ◌+◌, ◌-◌, ◌*◌, ◌≤◌, Bool, false, List, [], ◌∷◌, ◌++◌, length, replicate, ℤ, pos, sym, ap, ◌∙◌, subst, mul-le-mul, add-one, arith}
 use Rattle.std.proofs.lemmas.List.{take_all, take_more_set, replicate_more}
-use Rattle.std.specs.List.{AllByRecursion as All}
+use Rattle.std.specs.List.{AllByRecursion}
 use Rattle.relaxing.specs.declared.Limit.{Limit}
 use Rattle.relaxing.specs.Limits.{Fits, Latest, Shallow, moves, pass, passes}
 use Rattle.relaxing.proofs.Finding.{zeros, latest_early, latest_from_still, none_from_moves, shallow_from_zeros}
@@ -45,9 +45,9 @@ relax_pass-requires c =
     let ls = c.args.limits.now in
     let n = length c.loop-time.times in
     let done = c.loop-done.done in
-    let fits : All (Fits n) ls = subst (λ k. All (Fits k) ls) (sym c.loop-time.auto.times) c.requires.fits in
+    let fits : AllByRecursion (Fits n) ls = subst (λ k. AllByRecursion (Fits k) ls) (sym c.loop-time.auto.times) c.requires.fits in
     record {
-      fits = subst (λ k. All (Fits k) ls) (sym c.loop-done.auto.times) fits;
+      fits = subst (λ k. AllByRecursion (Fits k) ls) (sym c.loop-done.auto.times) fits;
       shallow = (
         done * (length ls * 1000001),
         subst (Shallow (done * (length ls * 1000001))) (sym c.loop-done.invariant.0) (shallow_from_zeros ls n fits done),

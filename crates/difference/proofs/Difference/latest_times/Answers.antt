@@ -1,7 +1,7 @@
 use Rattle.std.proofs.Common.{◌++◌, length, take, drop, Ok, Err, vec_items, sym, ap, ◌∙◌, subst, arith}
 use Rattle.std.proofs.lemmas.List.{length-take-le}
 use Rattle.std.proofs.lemmas.Bool.{le-ltb, lt-ltb, cond-false, cond-true}
-use Rattle.std.specs.List.{AllByRecursion as All}
+use Rattle.std.specs.List.{AllByRecursion}
 use Rattle.refusals.specs.declared.Refusal.TheVariants.{WorldListShort}
 use Rattle.relaxing.specs.Limits.{Fits, latest}
 use Rattle.difference.specs.Laws.{lawful}
@@ -15,7 +15,7 @@ relax-requires c =
     let n = length-take-le t.variables c.args.list.now c.if-list-self.false in
     let k = kept_of t in
     record {
-      fits = subst (λ m. All (Fits m) c.records.result.now) (sym n) (subst (All (Fits t.variables)) (sym c.records.ensures) (limits_fit k.sound));
+      fits = subst (λ m. AllByRecursion (Fits m) c.records.result.now) (sym n) (subst (AllByRecursion (Fits t.variables)) (sym c.records.ensures) (limits_fit k.sound));
       few = (omega (arith, ap length c.records.ensures, few_limits k.sound), omega (arith, n, (lawful t.variables (vec_items t.table) t.fits).few_variables));
     }
 

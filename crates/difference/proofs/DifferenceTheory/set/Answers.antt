@@ -1,5 +1,5 @@
 use Rattle.std.proofs.Common.{◌≡◌, true, false, List, [], ◌∷◌, ◌++◌, length, vec_items, sym, refl, ap, ◌∙◌, subst, arith}
-use Rattle.std.specs.List.{AllByRecursion as All}
+use Rattle.std.specs.List.{AllByRecursion}
 use Rattle.relaxing.specs.declared.Limit.{Limit}
 use Rattle.relaxing.specs.Limits.{Fits, NoTimes, moves, latest}
 use Rattle.theory.specs.Meaning.{different}
@@ -26,7 +26,7 @@ have_times-requires c =
     c.records.ensures ∙ c.push.ensures.items ∙ ap (λ x. vec_items t.stack.records ++ (x ∷ [])) l in
     let s = sound_grown t c.args.code c.args.conflict.now p in
     record {
-      fits = subst (All (Fits t.variables)) (sym e) (limits_fit s);
+      fits = subst (AllByRecursion (Fits t.variables)) (sym e) (limits_fit s);
       few = (omega (arith, ap length e, few_limits s), (lawful t.variables (vec_items t.table) t.fits).few_variables);
     }
 

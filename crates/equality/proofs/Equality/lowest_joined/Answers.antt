@@ -1,7 +1,7 @@
 use Rattle.std.proofs.Common.{◌≡◌, ◌++◌, length, take, drop, Ok, Err, vec_items, sym, ap, ◌∙◌, subst, arith}
 use Rattle.std.proofs.lemmas.List.{length-take-le}
 use Rattle.std.proofs.lemmas.Bool.{le-ltb, lt-ltb, cond-false, cond-true}
-use Rattle.std.specs.List.{AllByRecursion as All}
+use Rattle.std.specs.List.{AllByRecursion}
 use Rattle.refusals.specs.declared.Refusal.TheVariants.{WorldListShort}
 use Rattle.joining.specs.Joins.{Fits, labelled}
 use Rattle.joining.proofs.Labelled.{lowest_labelled}
@@ -15,7 +15,7 @@ join_all-requires c =
     let s = (kept_of t).sound in
     let long : length (take t.variables c.args.list.now) ≡ t.variables = length-take-le t.variables c.args.list.now c.if-list-self.false in
     record {
-      fits = subst (λ n. All (Fits n) c.records.result.now) (sym long) (subst (All (Fits t.variables)) (sym c.records.ensures) (joins_fit s));
+      fits = subst (λ n. AllByRecursion (Fits n) c.records.result.now) (sym long) (subst (AllByRecursion (Fits t.variables)) (sym c.records.ensures) (joins_fit s));
       few = omega (arith, few_variables s);
     }
 

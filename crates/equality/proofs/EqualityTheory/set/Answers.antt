@@ -1,6 +1,6 @@
 use Rattle.std.proofs.Common.{◌≡◌, ℕ, ◌<◌, ◌≤◌, true, false, List, [], ◌∷◌, ◌++◌, length, None, Ok, vec_items, vec_capacity, sym, refl, ap, ◌∙◌, subst, arith}
 use Rattle.std.proofs.lemmas.List.{get_or_read, length-map}
-use Rattle.std.specs.List.{AllByRecursion as All}
+use Rattle.std.specs.List.{AllByRecursion}
 use Rattle.joining.specs.declared.Join.{Join}
 use Rattle.joining.specs.Joins.{Fits, labelled, agrees, NoWorld}
 use Rattle.tables.specs.declared.EqualityEntry.{EqualityEntry}
@@ -71,7 +71,7 @@ pub have_world-requires : goal.have_world-requires
 have_world-requires c =
     let s = sound_more (goal.at.have_world-requires c).In_ok-check in
     record {
-      fits = subst (All (Fits c.args.self.now.variables)) (sym (c.records.ensures ∙ pushed c)) (joins_fit s);
+      fits = subst (AllByRecursion (Fits c.args.self.now.variables)) (sym (c.records.ensures ∙ pushed c)) (joins_fit s);
       few = few_variables s;
     }
 

@@ -1,5 +1,5 @@
 use Rattle.std.proofs.Common.{◌≡◌, ℕ, ◌<◌, List, get_or, Ok, Err, Result, refl, ap, ◌∙◌, arith, w8, Fits, rules}
-use Rattle.std.specs.List.{AllByRecursion as All}
+use Rattle.std.specs.List.{AllByRecursion}
 use Rattle.std.proofs.ByRecursion.{All-from_get_or}
 use Rattle.std.proofs.lemmas.Result.{err_from_is_err_and}
 use Rattle.refusals.specs.declared.Fault.{Fault}
@@ -11,7 +11,7 @@ use Rattle.question_file.proofs.Law.{undoing_writing}
 use Rattle.question_file.proofs.Standing.{accepted}
 use Rattle.question_file.proofs.load.load.Goals as goal
 
-bytes : (file : List ℕ) → ((i : ℕ) → Fits w8 (get_or file i 0)) → All (λ b. b < 256) file
+bytes : (file : List ℕ) → ((i : ℕ) → Fits w8 (get_or file i 0)) → AllByRecursion (λ b. b < 256) file
 bytes file f = All-from_get_or (λ b. b < 256) file 0 (λ i _. (f i).fits)
 
 -- a refused file leaves a table
