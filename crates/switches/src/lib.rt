@@ -5,7 +5,7 @@ ghost use Rattle.std.specs.Prelude.{◌≡◌, ℕ, ◌≤◌, true, List, [], m
 ghost use Rattle.theory.specs.Meaning.{different};
 ghost use Rattle.switches.specs.Switching.{switch_meaning, switch_world, shown_switches};
 ghost use Rattle.switches.specs.Worlds.{world_of_stack};
-ghost use Rattle.std.proofs.Common.{rules, arith};
+ghost use Rattle.std.proofs.Common.{rules};
 
 use refusals::Refusal;
 use theory::stack::{Record, Stack};
@@ -66,9 +66,9 @@ impl Theory for Switches {
     // no literal clashes
     ghost given_conflict = { λ _ _. [] };
 
-    ghost lawful = { first_of (Prim.search rules, Prim.grind (arith, Self.row.coded.inj)) };
+    ghost lawful = { Prim.search rules };
 
-    ghost apart = { first_of (Prim.search rules, Prim.grind (arith, Self.row.coded.inj)) };
+    ghost apart = { λ t _. t.apart };
 
     ghost worldly = { λ t _. world_of_stack t.count (map (λ s. s.code) t.stack.records.items) t.apart };
 
