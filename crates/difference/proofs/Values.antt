@@ -9,12 +9,12 @@ use Rattle.relaxing.proofs.Finding.{latest_when_still, length_latest}
 use Rattle.std.specs.List.{AllByRecursion}
 use Rattle.theory.specs.Calls.{set_ground, ground_answer, Gained, Clashed}
 use Rattle.theory.specs.Meaning.{atom_of, names}
-use Rattle.theory.proofs.Apart.{different_room}
+use Rattle.theory.proofs.Apart.{different_at, different_room}
 use Rattle.theory.proofs.Conflicts.{set_clashed}
 use Rattle.theory.proofs.Grounds.{set_accepted}
 use Rattle.difference.specs.declared.Difference.{Difference}
 use Rattle.difference.specs.Differences.{entry_limit, limit_of, difference_meaning, LatestWorld, codes_of}
-use Rattle.difference.specs.Laws.{different_at, worldly}
+use Rattle.difference.specs.Laws.{worldly}
 use Rattle.difference.proofs.Sound.{Sound, Kept, sound_push, codes_push, no_world, met_all}
 
 pub kept_of : (t : Difference) → Kept t.variables (vec_items t.table) (vec_items t.stack.records)

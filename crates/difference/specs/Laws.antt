@@ -1,7 +1,7 @@
 -- The interface's laws of the difference theory: in every world exactly one of a literal and its opposite holds, and the
--- latest times of the set limits are a world of the set literals.
+-- latest times of the set limits are a world of the set literals. These are proofs; nothing in them has to be believed.
 use Rattle.std.specs.Prelude.{◌≡◌, ℕ, ◌+◌, ◌*◌, ◌%◌, true, false, cond, not, ◌&&◌, List, length, ℤ, pos, ◌-ℤ◌, neg_ℤ, ◌≤ℤ◌, int_le, nat_le}
-use Rattle.std.proofs.Common.{sym, ap, ◌∙◌, subst, arith}
+use Rattle.std.proofs.Common.{sym, ap, ◌∙◌, arith}
 use Rattle.std.specs.List.{AllByRecursion}
 use Rattle.std.proofs.ByRecursion.{All-weaker}
 use Rattle.std.proofs.lemmas.Int.{ints}
@@ -11,7 +11,7 @@ use Rattle.tables.specs.Entries.{most, difference_fits, all_entries_fit, all_fit
 use Rattle.relaxing.specs.declared.Limit.{Limit}
 use Rattle.relaxing.specs.Limits.{at, Met, moves, latest}
 use Rattle.relaxing.proofs.Finding.{latest_when_still, length_latest}
-use Rattle.theory.specs.Meaning.{Lawful, WorldOf, AllHold, atom_of, different}
+use Rattle.theory.specs.Meaning.{Lawful, WorldOf, AllHold, atom_of}
 use Rattle.theory.proofs.Drawn.{all_codes}
 use Rattle.difference.specs.Differences.{entry_limit, entry_at, limit_of, limit_holds, difference_meaning, codes_of, limits_of}
 
@@ -85,7 +85,3 @@ module _ (variables : ℕ) (table : List DifferenceEntry) (limits : List Limit) 
   pub worldly : moves limits (latest limits variables) ≡ false
       → WorldOf (difference_meaning variables table) (codes_of limits) (latest limits variables)
   worldly h = record { whole = length_latest limits variables; all_hold = all_hold (latest limits variables) (latest_when_still limits variables h).met }
-
--- a number of atoms may be written in another way
-pub different_at : (codes : List ℕ) {n m : ℕ} → different n codes ≡ true → n ≡ m → different m codes ≡ true
-different_at codes d e = subst (λ k. different k codes ≡ true) e d

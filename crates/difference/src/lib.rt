@@ -6,6 +6,7 @@ ghost use Rattle.std.specs.List.{AllByRecursion};
 ghost use Rattle.relaxing.specs.Limits.{Fits, NoTimes, moves, latest};
 ghost use Rattle.tables.specs.Entries.{difference_fits, all_entries_fit};
 ghost use Rattle.theory.specs.Calls.{world_answer, world_written};
+ghost use Rattle.theory.proofs.Apart.{different_at};
 ghost use Rattle.theory.specs.Meaning.{different};
 ghost use Rattle.difference.specs.Differences.{entry_limit, difference_meaning, LatestWorld, shown_table, shown_variables, codes_of, limits_of};
 ghost use Rattle.difference.specs.Laws;
@@ -116,7 +117,7 @@ impl Theory for Difference {
 
     ghost lawful = { λ t _. Laws.lawful t.variables t.table.items t.fits };
 
-    ghost apart = { λ t _. Laws.different_at (codes_of t.stack.records.items) t.apart t.table.ok.0 };
+    ghost apart = { λ t _. different_at (codes_of t.stack.records.items) t.apart t.table.ok.0 };
 
     ghost worldly = { λ t _. Laws.worldly t.variables t.table.items t.stack.records.items t.drawn t.settled };
 

@@ -3,10 +3,10 @@ use Rattle.std.proofs.Common.{◌≡◌, ℕ, ◌≤◌, true, List, vec_items, 
 use Rattle.joining.specs.declared.Join.{Join}
 use Rattle.joining.specs.Joins.{labelled, agrees}
 use Rattle.tables.specs.Entries.{all_entries_fit, equality_fits}
+use Rattle.theory.proofs.Apart.{different_at}
 use Rattle.theory.specs.Meaning.{different}
 use Rattle.equality.specs.declared.Equality.{Equality}
 use Rattle.equality.specs.Equalities.{codes_of, joins_of}
-use Rattle.equality.specs.Laws.{different_at}
 use Rattle.equality.proofs.Sound.{Kept}
 
 pub kept_of : (t : Equality) → Kept t.variables (vec_items t.table) (vec_items t.stack.records)

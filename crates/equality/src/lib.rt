@@ -6,6 +6,7 @@ ghost use Rattle.std.specs.List.{AllByRecursion};
 ghost use Rattle.joining.specs.Joins.{Fits, Lowest, NoWorld, agrees, labelled};
 ghost use Rattle.tables.specs.Entries.{equality_fits, all_entries_fit};
 ghost use Rattle.theory.specs.Calls.{world_answer, world_written};
+ghost use Rattle.theory.proofs.Apart.{different_at};
 ghost use Rattle.theory.specs.Meaning.{different};
 ghost use Rattle.equality.specs.Equalities.{entry_join, equality_meaning, shown_table, shown_variables, codes_of, joins_of};
 ghost use Rattle.std.proofs.Common.{rules};
@@ -108,7 +109,7 @@ impl Theory for Equality {
 
     ghost lawful = { Prim.search rules };
 
-    ghost apart = { λ t _. Laws.different_at (codes_of t.stack.records.items) t.apart t.table.ok.0 };
+    ghost apart = { λ t _. different_at (codes_of t.stack.records.items) t.apart t.table.ok.0 };
 
     ghost worldly = { λ t _. Laws.worldly t.variables t.table.items t.stack.records.items t.drawn t.settled };
 

@@ -6,7 +6,7 @@ use Rattle.steps.proofs.Every.{promises}
 use Rattle.theory.specs.Meaning.{Meaning, Lawful}
 use Rattle.question.specs.Replays.{call_of, event_of, Performed, TellsAll, Answered}
 use Rattle.question.specs.declared.asked.replay.Answer.{Answer}
-use Rattle.question.specs.declared.asked.replay.Call as data-call
+use Rattle.question.specs.declared.asked.replay.Call as data_call
 
 tells_push : (calls : List Call) (answers : List Answer) (events : List Event) (c : Call) (a : Answer) (e : Event) → TellsAll calls answers events → event_of c a ≡ Some e
     → TellsAll (calls ++ (c ∷ [])) (answers ++ (a ∷ [])) (events ++ (e ∷ []))
@@ -19,7 +19,7 @@ tells_push (x ∷ calls) (y ∷ answers) (z ∷ events) c a e t told = (t.0, tel
 
 module _ (m : Meaning) where
   -- the answers to the first calls, and the state that they lead to
-  pub record SoFar (calls : List data-call.Call) (answers : List Answer) (state : State) : Type 0 where
+  pub record SoFar (calls : List data_call.Call) (answers : List Answer) (state : State) : Type 0 where
     pub events : List Event
     pub history : History m events state
     pub told : TellsAll (map (call_of m.variables) calls) answers (reverse events)
@@ -32,7 +32,7 @@ module _ (m : Meaning) where
         told = subst (λ xs. TellsAll [] xs []) (sym empty) tt;
       }
 
-  pub one_more : (calls calls' : List data-call.Call) (answers answers' : List Answer) (s s' : State) (c : data-call.Call) (a : Answer)
+  pub one_more : (calls calls' : List data_call.Call) (answers answers' : List Answer) (s s' : State) (c : data_call.Call) (a : Answer)
       → calls' ≡ calls ++ (c ∷ []) → answers' ≡ answers ++ (a ∷ []) → SoFar calls answers s → Performed m s (call_of m.variables c) a s' → SoFar calls' answers' s'
   one_more calls calls' answers answers' s s' c a is as_is f p =
       record {
@@ -46,7 +46,7 @@ module _ (m : Meaning) where
             (tells_push (map (call_of m.variables) calls) answers (reverse f.events) (call_of m.variables c) a p.event f.told p.told))));
       }
 
-  pub all_answered : Lawful m → (calls calls' : List data-call.Call) (answers : List Answer) (s : State) → calls ≡ calls' → SoFar calls answers s → Answered m calls' answers
+  pub all_answered : Lawful m → (calls calls' : List data_call.Call) (answers : List Answer) (s : State) → calls ≡ calls' → SoFar calls answers s → Answered m calls' answers
   all_answered lawful calls calls' answers s is f =
       record {
         events = f.events;

@@ -10,12 +10,12 @@ use Rattle.question.specs.declared.Outcome.{Outcome}
 use Rattle.question.specs.declared.Outcome.TheVariants as outcome
 use Rattle.question.specs.declared.asked.replay.Answer.{Answer}
 use Rattle.question.specs.declared.asked.replay.Answer.TheVariants as answer
-use Rattle.question.specs.declared.asked.replay.Call as data-call
+use Rattle.question.specs.declared.asked.replay.Call as data_call
 use Rattle.question.specs.declared.asked.replay.Call.TheVariants as call
 use Rattle.question.specs.declared.asked.replay.Replayed.{Replayed}
 
 -- a call as data; a world is asked for with as many places as there are variables
-abbrev pub call_of : ℕ → data-call.Call → Call
+abbrev pub call_of : ℕ → data_call.Call → Call
 call_of variables (call.Post clause) = Post (vec_items clause)
 call_of variables (call.Search grant) = Search grant
 call_of variables (call.Resume grant) = Resume grant
@@ -100,7 +100,7 @@ TellsAll (c ∷ calls) (a ∷ answers) (e ∷ events) = (event_of c a ≡ Some e
 
 -- The answers are what a question gives to the calls from its opening on, and all that is promised of every list of calls
 -- holds of them. Events are newest first.
-pub record Answered (m : Meaning) (calls : List data-call.Call) (answers : List Answer) : Type 0 where
+pub record Answered (m : Meaning) (calls : List data_call.Call) (answers : List Answer) : Type 0 where
   pub events : List Event
   pub state : State
   pub history : History m events state
@@ -112,11 +112,11 @@ pub record GivenBack {T : Type 0} (theory : Ghosts T) (t t' : T) : Type 0 where
   pub made : theory.made t'
   pub same : theory.meaning t' ≡ theory.meaning t
 
-pub record ReplayedRight {T : Type 0} (theory : Ghosts T) (t : T) (calls : List data-call.Call) (done : Replayed T) : Type 0 where
+pub record ReplayedRight {T : Type 0} (theory : Ghosts T) (t : T) (calls : List data_call.Call) (done : Replayed T) : Type 0 where
   pub answered : Answered (theory.meaning t) calls (vec_items done.answers)
   pub back : GivenBack theory t done.theory
   pub empty : theory.stack done.theory ≡ []
 
-abbrev pub ReplayBy : {T : Type 0} → Ghosts T → T → List data-call.Call → Result (Replayed T) T → Type 0
+abbrev pub ReplayBy : {T : Type 0} → Ghosts T → T → List data_call.Call → Result (Replayed T) T → Type 0
 ReplayBy theory t calls (Ok done) = ReplayedRight theory t calls done
 ReplayBy theory t calls (Err back) = GivenBack theory t back

@@ -32,8 +32,8 @@ met_not_lower x y k h = grind (arith, ints)
 lower : (x y k : ℤ) → lt_z (y +ℤ k) x ≡ true → (y +ℤ k) ≤ℤ x
 lower x y k e = omega (arith, ints)
 
-pub ≤ℤ-trans : {x y z : ℤ} → x ≤ℤ y → y ≤ℤ z → x ≤ℤ z
-≤ℤ-trans h k = omega (arith, ints)
+pub ≤ℤ_trans : {x y z : ℤ} → x ≤ℤ y → y ≤ℤ z → x ≤ℤ z
+≤ℤ_trans h k = omega (arith, ints)
 
 -- where the times u and v meet it, and v is not above y, u is not above what y allows
 under_met : (u v y k : ℤ) → (u -ℤ v) ≤ℤ k → v ≤ℤ y → u ≤ℤ (y +ℤ k)
@@ -154,7 +154,7 @@ met_still (l ∷ ls) w h =
 -- a pass raises no time
 pub pass_falls : (ls : List Limit) (w : List ℤ) (x : ℕ) → at (pass ls w) x ≤ℤ at w x
 pass_falls [] w x = ≤ℤ_refl (at w x)
-pass_falls (l ∷ ls) w x = ≤ℤ-trans (pass_falls ls (relaxed w l) x) (relaxed_falls w l x)
+pass_falls (l ∷ ls) w x = ≤ℤ_trans (pass_falls ls (relaxed w l) x) (relaxed_falls w l x)
 
 -- and goes below no times that meet the limits
 pub pass_above : (ls : List Limit) (w s : List ℤ) → AllByRecursion (Met s) ls → ((x : ℕ) → at s x ≤ℤ at w x)
@@ -211,7 +211,7 @@ passes_early m n ls w h e =
 
 pub passes_falls : (n : ℕ) (ls : List Limit) (w : List ℤ) (x : ℕ) → at (passes n ls w) x ≤ℤ at w x
 passes_falls zero ls w x = ≤ℤ_refl (at w x)
-passes_falls (suc n) ls w x = ≤ℤ-trans (passes_falls n ls (pass ls w) x) (pass_falls ls w x)
+passes_falls (suc n) ls w x = ≤ℤ_trans (passes_falls n ls (pass ls w) x) (pass_falls ls w x)
 
 pub passes_above : (n : ℕ) (ls : List Limit) (w s : List ℤ) → AllByRecursion (Met s) ls → ((x : ℕ) → at s x ≤ℤ at w x)
     → (x : ℕ) → at s x ≤ℤ at (passes n ls w) x

@@ -10,7 +10,7 @@ use Rattle.std.proofs.lemmas.Bool.{cases_Bool, eqb-true, eqb-false, eq-eqb, or_c
 use Rattle.std.specs.List.{AllByRecursion}
 use Rattle.relaxing.specs.declared.Limit.{Limit}
 use Rattle.relaxing.specs.Limits.{at, Met, Fits, lowers, relaxed, pass, moves, passes}
-use Rattle.relaxing.proofs.Passes.{≤ℤ-trans, relaxed_lower, relaxed_still, met_when_still, still_when_met, relaxed_cases, relaxed_falls, length_relaxed, length_pass, met_still, passes_still, all_both_weaker}
+use Rattle.relaxing.proofs.Passes.{≤ℤ_trans, relaxed_lower, relaxed_still, met_when_still, still_when_met, relaxed_cases, relaxed_falls, length_relaxed, length_pass, met_still, passes_still, all_both_weaker}
 
 -- ---- the variables that are not settled, and the least of them
 
@@ -165,7 +165,7 @@ module _ (s : List ℤ) (m : ℕ) where
     stepped_on : {u : List ℤ} → Stepped s m v u → Stepped s m w u
     stepped_on {u} r =
         record {
-          falls = λ x. ≤ℤ-trans (r.falls x) (t.falls x);
+          falls = λ x. ≤ℤ_trans (r.falls x) (t.falls x);
           same = λ x h. r.same x (near_kept x h) ∙ t.same x h;
           above = λ x h. subst (λ z. z ≤ℤ slack s u x) bound_kept (r.above x (above_kept x h));
         }
@@ -265,7 +265,7 @@ module _ (ls : List Limit) (s : List ℤ) (met : AllByRecursion (Met s) ls) wher
                 let t = stepped_pass s r.one ls w met safe in
                 let low = near x (subst (λ n. x < n) (length_pass ls w) h) e in
                 subst (λ z. z ≤ℤ slack s (pass ls w) y) (sym (slack_kept s r.one t x low))
-                (≤ℤ-trans low (t.above y (r.least y (r.others_among y k))));
+                (≤ℤ_trans low (t.above y (r.least y (r.others_among y k))));
           }
 
     -- with at most one variable left, all limits are met

@@ -1,4 +1,5 @@
--- The world of a stack of literals of different atoms: 1 where the plain literal is set, otherwise 0.
+-- The world of a stack of literals of different atoms is one: 1 where the plain literal is set, otherwise 0. These are proofs;
+-- nothing in them has to be believed.
 use Rattle.std.specs.Prelude.{◌≡◌, ℕ, ◌*◌, ◌<◌, true, List, [], ◌∷◌, pos, nat_eq, refl}
 use Rattle.std.proofs.Common.{arith}
 use Rattle.std.proofs.lemmas.List.FromFn.{length-map-range_with_len, get_or-map-range_with_len}

@@ -1,5 +1,5 @@
 -- Literals of different atoms: one more at the end, fewer, and that there are no more of them than atoms.
-use Rattle.std.proofs.Common.{◌≡◌, ℕ, zero, suc, ◌<◌, ◌≤◌, true, false, cond, not, ◌&&◌, ◌||◌, eqb, ltb, List, [], ◌∷◌, ◌++◌, length, take, sym, refl, ap, ◌∙◌, arith}
+use Rattle.std.proofs.Common.{◌≡◌, ℕ, zero, suc, ◌<◌, ◌≤◌, true, false, cond, not, ◌&&◌, ◌||◌, eqb, ltb, List, [], ◌∷◌, ◌++◌, length, take, sym, refl, ap, ◌∙◌, subst, arith}
 use Rattle.std.proofs.lemmas.Bool.{and_parts, and_from, or_parts, or_from, not-true, not_from_false, ltb-true, lt-ltb, eqb-true, eqb-false, cond_both}
 use Rattle.std.proofs.lemmas.List.{length_push}
 use Rattle.std.proofs.lemmas.Bool.Decides.{nat_tests}
@@ -9,6 +9,10 @@ use Rattle.theory.specs.Meaning.{atom_of, names, different}
 names_push : (codes : List ℕ) (code atom : ℕ) → names (codes ++ (code ∷ [])) atom ≡ (names codes atom || eqb (atom_of code) atom)
 names_push [] code atom = grind arith
 names_push (x ∷ codes) code atom = let h = names_push codes code atom in grind arith
+
+-- the literals are of different atoms, however the number of atoms is written
+pub different_at : (codes : List ℕ) {n m : ℕ} → different n codes ≡ true → n ≡ m → different m codes ≡ true
+different_at codes d e = subst (λ k. different k codes ≡ true) e d
 
 pub different_push : (atoms : ℕ) (codes : List ℕ) (code : ℕ) → different atoms codes ≡ true → names codes (atom_of code) ≡ false
     → atom_of code < atoms → different atoms (codes ++ (code ∷ [])) ≡ true

@@ -53,8 +53,11 @@ impl From<AllocError> for Unexpected {
     }
 }
 
-// Whether the list has the front, and the spare entry everywhere behind it.
+// Whether the list has the front, whole, and the spare entry everywhere behind it.
 fn fronted<X: Copy + PartialEq>(list: &[X], front: &[X], spare: X) -> bool {
+    if front.len() > list.len() {
+        return false;
+    }
     for (i, entry) in list.iter().enumerate() {
         if *entry != front.get(i).copied().unwrap_or(spare) {
             return false;
