@@ -3,4 +3,5 @@ pub mod Conflicts
 pub mod Drawn
 pub mod Grounds
 pub mod Retreats
+pub mod Searches
 pub mod Stacks

@@ -1,25 +1,7 @@
--- Lists of codes, as the stack's loops go through them.
+-- A list of codes, as it is written.
 use Rattle.std.proofs.Common.{◌≡◌, ℕ, ◌+◌, ◌<◌, ◌≤◌, Bool, true, false, ◌||◌, eqb, List, [], ◌∷◌, ◌++◌, map, length, get_or, take, drop, set, sym, refl, ap, ◌∙◌, arith}
 use Rattle.std.proofs.lemmas.List.{drop_more, drop_all, take_more_set, map_more, drop-set-lt, drop-drop, take_all, take-append-drop}
 use Rattle.std.proofs.lemmas.Bool.{eq-eqb, ne_eqb}
-
--- A search through the records: `any` is a test of codes, which says whether one of them has a key that is looked for.
-module _ {R : Type 0} (coded : R → ℕ) (xs : List R) (key : ℕ → ℕ) (wanted : ℕ) (any : List ℕ → Bool)
-    (any_none : any [] ≡ false) (any-more : (x : ℕ) (codes : List ℕ) → any (x ∷ codes) ≡ (eqb (key x) wanted || any codes)) where
-  module _ (i : ℕ) (x : R) (here : i < length xs) (is : x ≡ get_or xs i x) where
-    any_step : any (map coded (drop i xs)) ≡ (eqb (key (coded x)) wanted || any (map coded (drop (i + 1) xs)))
-    any_step =
-        ap (λ ys. any (map coded ys)) (drop_more xs i x here ∙ ap (λ y. y ∷ drop (i + 1) xs) (sym is))
-        ∙ any-more (coded x) (map coded (drop (i + 1) xs))
-
-    pub any_here : key (coded x) ≡ wanted → true ≡ any (map coded (drop i xs))
-    any_here e = let t = eq-eqb (key (coded x)) wanted e in let s = any_step in cc
-
-    pub any_further : (key (coded x) ≡ wanted → ⊥) → any (map coded (drop (i + 1) xs)) ≡ any (map coded (drop i xs))
-    any_further n = let t = ne_eqb (key (coded x)) wanted n in let s = any_step in cc
-
-  pub any_nowhere : (i : ℕ) → length xs ≤ i → false ≡ any (map coded (drop i xs))
-  any_nowhere i l = sym (ap (λ ys. any (map coded ys)) (drop_all i xs l) ∙ any_none)
 
 -- A code and then the codes of the first records stand at the front of a list, which is unchanged behind.
 module _ {R : Type 0} (coded : R → ℕ) (xs : List R) (first : ℕ) (before : List ℕ) where

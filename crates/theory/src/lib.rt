@@ -9,6 +9,9 @@ use refusals::Refusal;
 
 pub mod stack;
 
+// The most atoms that a theory has, and the most variables.
+pub const MOST: usize = 512;
+
 // How many atoms and variables a theory has.
 #[derive(Clone, Copy, PartialEq, Eq, Debug)]
 pub struct Sizes {
@@ -21,9 +24,6 @@ pub struct Sizes {
 // An implementation is free only in which world and which conflict it gives. `given_world` and `given_conflict` name
 // these choices, so that each call's outcome is an equation.
 pub trait Theory {
-    // the value was made by its own calls
-    ghost made: { Self → Type 0 };
-
     // how many atoms and variables there are, and which literals hold in which worlds
     ghost meaning: { Self → Meaning };
 
@@ -37,43 +37,35 @@ pub trait Theory {
     ghost given_conflict: { Self → ℕ → List ℕ };
 
     fn sizes(&self) -> Sizes
-        requires { made self.now }
         ensures atoms { result.atoms ≡ (meaning self.now).atoms }
         ensures variables { result.variables ≡ (meaning self.now).variables };
 
     // Puts a literal on the end of the stack, or says why not. Where it clashes with the stack, a conflict is written to
     // the front of the list.
     fn set(&mut self, code: u16, conflict: &mut [u16]) -> Result<(), Refusal>
-        requires { made self.old }
-        ensures kept { made self.new }
         ensures same { meaning self.new ≡ meaning self.old }
         ensures by { SetBy (meaning self.old) (stack self.old) (given_conflict self.old code) code conflict.old result (stack self.new) conflict.new };
 
     // Drops the newest literals, so many.
     fn retreat(&mut self, count: usize) -> Result<(), Refusal>
-        requires { made self.old }
-        ensures kept { made self.new }
         ensures same { meaning self.new ≡ meaning self.old }
         ensures answer { result ≡ retreat_answer (stack self.old) count }
         ensures dropped { stack self.new ≡ retreated (stack self.old) count };
 
     // Writes the world to the front of a list.
     fn world(&self, list: &mut [i64]) -> Result<(), Refusal>
-        requires { made self.now }
         ensures answer { result ≡ world_answer (meaning self.now).variables list.old }
         ensures written { list.new ≡ world_written (meaning self.now).variables (given_world self.now) list.old };
 
-    ghost lawful: { (t : Self) → made t → Lawful (meaning t) };
+    ghost lawful: { (t : Self) → Lawful (meaning t) };
 
-    ghost apart: { (t : Self) → made t → different (meaning t).atoms (stack t) ≡ true };
+    ghost apart: { (t : Self) → different (meaning t).atoms (stack t) ≡ true };
 
-    ghost worldly: { (t : Self) → made t → WorldOf (meaning t) (stack t) (given_world t) };
+    ghost worldly: { (t : Self) → WorldOf (meaning t) (stack t) (given_world t) };
 }
 
 // Drops all set literals of a theory.
 pub fn retreat_all<T: Theory>(theory: &mut T)
-    requires { T.Theory.made theory.old }
-    ensures kept { T.Theory.made theory.new }
     ensures same { T.Theory.meaning theory.new ≡ T.Theory.meaning theory.old }
     ensures dropped { T.Theory.stack theory.new ≡ [] }
 {

@@ -61,26 +61,18 @@ impl<R: Record> Stack<R> {
     pub fn names_atom(&self, atom: usize) -> bool
         ensures { result ≡ names (map R.Record.coded self.now.records.items) atom }
     {
-        let held = self.records.as_slice();
-        for one in held {
-            if one.code() as usize / 2 == atom {
-                return true;
-            }
-        }
-        false
+        self.records
+            .iter()
+            .any(|record| record.code() as usize / 2 == atom)
     }
 
     // Whether the literal with the code is set.
     pub fn has_code(&self, code: usize) -> bool
         ensures { result ≡ has (map R.Record.coded self.now.records.items) code }
     {
-        let held = self.records.as_slice();
-        for one in held {
-            if one.code() as usize == code {
-                return true;
-            }
-        }
-        false
+        self.records
+            .iter()
+            .any(|record| record.code() as usize == code)
     }
 
     // Why a literal is not even looked at, of `atoms` atoms and with so many places for a conflict.
@@ -127,11 +119,10 @@ impl<R: Record> Stack<R> {
         ensures count { result ≡ length self.now.records.items + 1 }
         ensures written { list.new ≡ (first ∷ map R.Record.coded self.now.records.items) ++ drop (length self.now.records.items + 1) list.old }
     {
-        let held = self.records.as_slice();
         list[0] = first;
-        for i in 0..held.len() {
-            list[i + 1] = held[i].code();
+        for (i, record) in self.records.iter().enumerate() {
+            list[i + 1] = record.code();
         }
-        held.len() + 1
+        self.records.len() + 1
     }
 }

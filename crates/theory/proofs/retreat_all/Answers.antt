@@ -8,15 +8,11 @@ loop-smaller g c =
     let ok = ap is_ok (sym c.retreat.ensures.answer) ∙ sym c.loop-test.ensures.value in
     omega (arith, one_fewer stack ok, ap length c.retreat.ensures.dropped)
 
-pub loop-preserved : goal.loop-preserved
-loop-preserved g c = (c.retreat.ensures.kept, c.retreat.ensures.same ∙ c.loop.invariant.1)
-
 pub returns : goal.returns
 returns g c =
     let stack = g.T.Theory.stack c.loop.theory in
     let err = ap is_ok (sym c.retreat.ensures.answer) ∙ sym c.loop-test.ensures.value in
     record {
-      kept = c.retreat.ensures.kept;
-      same = c.retreat.ensures.same ∙ c.loop.invariant.1;
+      same = c.retreat.ensures.same ∙ c.loop.invariant;
       dropped = c.retreat.ensures.dropped ∙ none_left stack err;
     }

@@ -1,26 +1,11 @@
-use Rattle.std.proofs.Common.{ℕ, map, sym, refl, ap, ◌∙◌}
-use Rattle.theory.specs.Meaning.{has}
-use Rattle.theory.proofs.Stacks.{any_here, any_further, any_nowhere}
+use Rattle.std.proofs.Common.{◌==◌, vec_items, ◌∙◌, rules, tests}
+use Rattle.std.proofs.lemmas.Iterator.{YieldsList-from_slice}
+use Rattle.std.proofs.lemmas.Iterator.Search.{any_from_yields_List}
+use Rattle.theory.proofs.Searches.{any_has}
 use Rattle.theory.proofs.stack.Stack.has_code.Goals as goal
-
-pub returns-then-code : goal.returns-then-code
-returns-then-code g c =
-    any_here g.R.Record.coded c.as_slice-held.result.now (λ (n : ℕ). n) c.args.code (λ codes. has codes c.args.code) refl (λ _ _. refl)
-    c.loop-one.one-index c.one-item.result c.loop-one-test.true c.one-item.is
-    (ap (λ (n : ℕ). n) (sym c.code.ensures) ∙ c.if-code.true)
-    ∙ c.loop-one.invariant
-    ∙ ap (λ xs. has (map g.R.Record.coded xs) c.args.code) c.as_slice-held.ensures.value
-
-pub loop-one-preserved : goal.loop-one-preserved
-loop-one-preserved g c =
-    any_further g.R.Record.coded c.as_slice-held.result.now (λ (n : ℕ). n) c.args.code (λ codes. has codes c.args.code) refl (λ _ _. refl)
-    c.loop-one.one-index c.one-item.result c.loop-one-test.true c.one-item.is
-    (λ e. c.if-code.false (ap (λ (n : ℕ). n) c.code.ensures ∙ e))
-    ∙ c.loop-one.invariant
 
 pub returns : goal.returns
 returns g c =
-    any_nowhere g.R.Record.coded c.as_slice-held.result.now (λ (n : ℕ). n) c.args.code (λ codes. has codes c.args.code) refl (λ _ _. refl)
-    c.loop-one.one-index c.loop-one-test.false
-    ∙ c.loop-one.invariant
-    ∙ ap (λ xs. has (map g.R.Record.coded xs) c.args.code) c.as_slice-held.ensures.value
+    any_from_yields_List (λ x. g.R.Record.coded x == c.args.code) _ _ _ c.any.ensures.ran
+    (YieldsList-from_slice (vec_items c.args.self.now.records) cc) (λ x b q k. search (rules, tests))
+    ∙ any_has g.R.Record.coded c.args.code (vec_items c.args.self.now.records)
