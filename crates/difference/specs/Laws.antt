@@ -1,6 +1,6 @@
 -- What the difference theory shows of its limits: in every world exactly one of a literal and its opposite holds, and the latest
 -- times meet the limits wherever any times do. These are proofs; nothing in them has to be believed.
-use Rattle.std.specs.Prelude.{◌≡◌, ℕ, ◌+◌, ◌*◌, ◌%◌, ◌<◌, Bool, true, false, cond, not, List, map, length, ℤ, pos, negsuc, ◌-ℤ◌, neg_ℤ, ◌≤ℤ◌, int_le, ◌==◌, refl}
+use Rattle.std.specs.Prelude.{◌≡◌, ℕ, ◌+◌, ◌*◌, ◌%◌, ◌<◌, true, false, cond, not, List, ℤ, pos, negsuc, ◌-ℤ◌, neg_ℤ, ◌≤ℤ◌, int_le, ◌==◌, refl}
 use Rattle.std.proofs.Common.{sym, ap, ◌∙◌, arith}
 use Rattle.std.specs.List.{AllByRecursion}
 use Rattle.std.proofs.ByRecursion.{All-weaker}
@@ -16,7 +16,6 @@ use Rattle.relaxing.proofs.Passes.{met_still}
 use Rattle.table_theory.specs.Drawing.{record_of, records_of, AllRecordsHold, SolverLaws}
 use Rattle.table_theory.specs.Laws.{worldly}
 use Rattle.theory.proofs.Drawn.{all_records}
-use Rattle.theory.specs.Meaning.{AllHold}
 use Rattle.difference.specs.Differences.{spare_entry, entry_limit, limit_holds, have_times, difference_meaning, LatestWorld, codes_of}
 
 -- What a limit says is what its literal means.

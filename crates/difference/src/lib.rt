@@ -18,6 +18,7 @@ pub struct LatestTimes;
 
 impl Solver for LatestTimes {
     type Entry = DifferenceEntry;
+
     type Record = Limit;
 
     ghost spare = { spare_entry };

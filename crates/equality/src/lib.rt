@@ -18,6 +18,7 @@ pub struct LowestJoined;
 
 impl Solver for LowestJoined {
     type Entry = EqualityEntry;
+
     type Record = Join;
 
     ghost spare = { spare_entry };

@@ -78,7 +78,11 @@ impl Theory for Switches {
             return Err(Refusal::WorldListShort);
         }
         for (switch, number) in list[..self.count].iter_mut().enumerate() {
-            *number = if self.stack.has_code(2 * switch) { 1 } else { 0 };
+            *number = if self.stack.has_code(2 * switch) {
+                1
+            } else {
+                0
+            };
         }
         Ok(())
     }

@@ -1,6 +1,6 @@
 -- What the entries of a table mean as the atoms of a theory: a literal of an entry asks for a record, and the record holds of
 -- a world or does not.
-use Rattle.std.specs.Prelude.{◌≡◌, ℕ, ◌+◌, ◌*◌, Bool, true, false, cond, not, ◌&&◌, List, [], map, length, ℤ, is_ok, Result, nat_le, slice_index_or}
+use Rattle.std.specs.Prelude.{◌≡◌, ℕ, ◌+◌, ◌*◌, Bool, true, cond, not, ◌&&◌, List, [], map, length, ℤ, is_ok, Result, nat_le, slice_index_or}
 use Rattle.std.specs.List.{AllByRecursion}
 use Rattle.refusals.specs.declared.Refusal.{Refusal}
 use Rattle.tables.specs.Entries.{all_entries_fit}

@@ -21,6 +21,7 @@ use theory::{MOST, Sizes, Theory};
 // A record is what one literal asks for. It holds of a world, a number for each variable, or does not.
 pub trait Solver {
     type Entry: Entry + Copy;
+
     type Record: Record;
 
     // an entry that nothing asks for

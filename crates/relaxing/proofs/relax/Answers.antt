@@ -45,8 +45,7 @@ relax_pass-requires-clause-shallow c =
     let n = length c.fill.new.self in
     let done = c.loop.counter in
     let fits : AllByRecursion (Fits n) ls = subst (λ k. AllByRecursion (Fits k) ls) (sym c.fill.ensures.len) c.requires.fits in
-    let small : n ≤ 512 = omega (arith, c.fill.ensures.len, c.requires.few.1) in
-    (
+    let small : n ≤ 512 = omega (arith, c.fill.ensures.len, c.requires.few.1) in (
       done * (length ls * 1000001),
       subst (Shallow (done * (length ls * 1000001))) (sym c.loop.invariant.0) (shallow_from_zeros ls n fits done),
       room done (length ls) (few_passes done n c.max-end.result c.loop.auto.counter-end c.max-end.ensures small) c.requires.few.0,
@@ -71,8 +70,7 @@ loop-preserved c =
     let ls = c.args.limits.now in
     let n = length c.fill.new.self in
     let told : true ≡ moves ls c.loop.times = sym c.if-not-relax_pass.false ∙ c.relax_pass.ensures.moved in
-    let moved = moves_is ls n c.loop.counter c.loop.times c.loop.invariant.0 told in
-    (
+    let moved = moves_is ls n c.loop.counter c.loop.times c.loop.invariant.0 told in (
       again ls n c.loop.counter c.loop.times c.loop.invariant.0 c.relax_pass.ensures.after,
       λ k e. let same : k ≡ c.loop.counter = omega (arith, e) in ap (λ j. moves ls (passes j ls (zeros n))) same ∙ moved,
     )

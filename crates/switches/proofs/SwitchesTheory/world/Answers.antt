@@ -1,9 +1,9 @@
-use Rattle.std.proofs.Common.{◌≡◌, ℕ, ◌+◌, ◌*◌, ◌<◌, Bool, true, false, cond, List, ◌++◌, map, length, take, drop, set, ℤ, pos, vec_items, refl, ap, ◌∙◌, arith}
+use Rattle.std.proofs.Common.{◌≡◌, ℕ, ◌+◌, ◌*◌, ◌<◌, Bool, true, false, cond, List, ◌++◌, map, length, take, drop, set, ℤ, pos, vec_items, ap, ◌∙◌, arith}
 use Rattle.std.proofs.lemmas.Bool.{cond_above}
 use Rattle.std.proofs.lemmas.List.{length-take-le}
 use Rattle.std.specs.List.{range_with_len}
 use Rattle.theory.specs.Meaning.{has}
-use Rattle.switches.specs.Switching.{switch_of, switch_world}
+use Rattle.switches.specs.Switching.{switch_of}
 use Rattle.switches.proofs.Fronts.{fronted, fronted_more, fronted_all}
 use Rattle.switches.proofs.SwitchesTheory.world.Goals as goal
 use Rattle.switches.proofs.SwitchesTheory.world.Goals.{then-has_code, else-has_code}

@@ -31,7 +31,8 @@ solve-requires g c =
       fits =
           subst (λ n. AllByRecursion (g.S.Solver.Fits n) c.records.result.now) (sym long)
           (subst (AllByRecursion (g.S.Solver.Fits t.variables)) (sym c.records.ensures) (records_fit g.met.S.Solver.laws g.S.Solver.spare t.variables (vec_items t.table) k));
-      few =
-          (omega (arith, ap length c.records.ensures, few_records g.met.S.Solver.laws g.S.Solver.spare t.variables (vec_items t.table) k),
-          omega (arith, long, (lawful g.met.S.Solver.laws g.S.Solver.spare t.variables (vec_items t.table) t.fits).few_variables));
+      few = (
+        omega (arith, ap length c.records.ensures, few_records g.met.S.Solver.laws g.S.Solver.spare t.variables (vec_items t.table) k),
+        omega (arith, long, (lawful g.met.S.Solver.laws g.S.Solver.spare t.variables (vec_items t.table) t.fits).few_variables),
+      );
     }

@@ -45,9 +45,10 @@ have_solution-requires g c =
     let same = c.records.ensures ∙ pushed g (goal.at.have_solution-requires g c).After-push in
     record {
       fits = subst (AllByRecursion (g.S.Solver.Fits t.variables)) (sym same) (grown_fit laws t c.args.code c.args.conflict.now p);
-      few =
-          (omega (arith, ap length same, grown_few laws t c.args.code c.args.conflict.now p),
-          (lawful laws g.S.Solver.spare t.variables (vec_items t.table) t.fits).few_variables);
+      few = (
+        omega (arith, ap length same, grown_few laws t c.args.code c.args.conflict.now p),
+        (lawful laws g.S.Solver.spare t.variables (vec_items t.table) t.fits).few_variables,
+      );
     }
 
 pub invariant_of-self-then-have_solution : goal.invariant_of-self-then-have_solution
