@@ -102,10 +102,7 @@ one_clause : (room : Room) (p : Progress) (n : ℕ) (body : List ℕ) → clause
 one_clause room p n body = go (in_turn p.before (tag_of n))
   where
     more : (t : Tag) → (counted p.counts t body).clauses ≤ p.counts.clauses + 1
-    more tag.Counts = omega arith
-    more tag.Difference = omega arith
-    more tag.Equality = omega arith
-    more tag.Clause = omega arith
+    more t = grind arith
 
     field_more : (t : Tag) (a : Result (Unit {0}) Refusal)
         → clauses_of (map_ok (λ counts. record { before = Some t; counts = counts }) (map_ok (λ _. counted p.counts t body) a))

@@ -39,7 +39,7 @@ module _ {E : Type 0} (size : ℕ) (said : List ℕ → E) (count : ℕ) (fields
               sum = omega arith;
               long = rw r l.1;
               whole = rw (take_more_set places i entry in_places, append_assoc, e, b, r) w;
-              behind = rw (r, drop-drop, drop-drop) (ap (λ n. drop n rest) (omega (arith, suc-mul left (3 + size))) ∙ d);
+              behind = rw r (simp drop-drop (ap (λ n. drop n rest) (omega (arith, suc-mul left (3 + size))) ∙ d));
             }
 
     pub filling_end : count ≤ i → length places ≡ count

@@ -167,15 +167,11 @@ impl Counts {
                     ..self
                 })
             }
-            Tag::Clause => {
-                if body.len() % 2 != 0 {
-                    return Err(Refusal::WrongLength);
-                }
-                Ok(Counts {
-                    clauses: self.clauses + 1,
-                    ..self
-                })
-            }
+            Tag::Clause if body.len() % 2 == 0 => Ok(Counts {
+                clauses: self.clauses + 1,
+                ..self
+            }),
+            Tag::Clause => Err(Refusal::WrongLength),
         }
     }
 }
