@@ -1,16 +1,19 @@
 -- What `set` of a side does, read as what it does to the pair.
-use Rattle.std.proofs.Common.{◌≡◌, ℕ, ◌+◌, ◌-◌, ◌*◌, ◌<◌, ◌≤◌, cond, ltb, leb, List, [], ◌∷◌, ◌++◌, length, take, drop, Some, None, Err, Option, sym, refl, ap, ◌∙◌, subst, arith, MatchOption}
+use Rattle.std.proofs.Common.{◌≡◌, ℕ, ◌+◌, ◌-◌, ◌*◌, ◌<◌, ◌≤◌, cond, ltb, leb, List, [], ◌∷◌, ◌++◌, length, take, drop, Ok, Some, None, Err, Option, Result, sym, refl, ap, ◌∙◌, subst, arith, MatchOption}
 use Rattle.std.proofs.lemmas.List.{length-map, take_at, drop_at}
-use Rattle.std.proofs.lemmas.Bool.{cond-false, le-ltb, lt-leb}
+use Rattle.std.proofs.lemmas.Bool.{cond-true, cond-false, le-ltb, lt-ltb, lt-leb}
 use Rattle.std.specs.List.{AllByRecursion}
 use Rattle.refusals.specs.Grounds.{clash_count}
 use Rattle.refusals.specs.declared.Refusal.{Refusal}
 use Rattle.refusals.specs.declared.Refusal.TheVariants.{NoSuchAtom, AtomSet, ConflictListShort}
-use Rattle.theory.specs.Calls.{set_ground, Conflict, Gained, Clashed, NotLookedAt, SetBy}
+use Rattle.theory.proofs.Grounds.{set_room, set_apart}
+use Rattle.theory.specs.Calls.{set_ground, ground_answer, Conflict, Gained, Clashed, NotLookedAt, SetBy}
+use Rattle.theory.specs.declared.Sizes.{Sizes}
 use Rattle.theory.specs.Meaning.{Meaning, WorldOf, atom_of, names}
 use Rattle.pair.proofs.Sides.{left_of_more, right_of_same, right_of_more, left_of_same, names_left, names_right, picked_left, picked_right, picked_hold, left_of_below, left_of_all, right_of_raised}
+use Rattle.pair.proofs.Together.{fits_if_any, pair_room, together_after}
 use Rattle.pair.specs.Worlds.{left_world, right_world}
-use Rattle.pair.specs.Pairs.{left_of, right_of, raised, pair_meaning, raised_front, RaisedSetBy}
+use Rattle.pair.specs.Pairs.{is_left, left_of, right_of, raised, pair_conflict, pair_meaning, raised_front, shown_if, shown_pair, RaisedSetBy, Together}
 
 -- where there is such an atom and the list is long enough, it counts only whether the atom is set
 plain_ground : (atoms : ℕ) (stack : List ℕ) (code places : ℕ) → atom_of code < atoms → atoms ≤ places
@@ -20,7 +23,9 @@ plain_ground atoms stack code places below long =
     ∙ ap (λ o. cond (names stack (atom_of code)) (Some AtomSet) o) (cond-false (ltb places atoms) (Some ConflictListShort) None (le-ltb places atoms long))
 
 -- both sides after the pair gained a literal
-pub record Grown (l r : Meaning) (codes : List ℕ) (code : ℕ) (list lefts rights list' : List ℕ) : Type 0 where
+pub record Grown (l r l' r' : Meaning) (codes : List ℕ) (code : ℕ) (list lefts rights list' : List ℕ) : Type 0 where
+  pub left_same : l' ≡ l
+  pub right_same : r' ≡ r
   pub gained : Gained (pair_meaning l r) codes code list (codes ++ (code ∷ [])) list'
   pub left_grown : lefts ≡ left_of l.atoms (codes ++ (code ∷ []))
   pub right_grown : rights ≡ right_of l.atoms (codes ++ (code ∷ []))
@@ -67,13 +72,16 @@ module _ (l r : Meaning) (codes : List ℕ) (code : ℕ) (list : List ℕ) (belo
         },
       )
 
-      pub refused_left : SetBy l (left_of l.atoms codes) conflict code list (Err why) lefts list'
+      refused_left : SetBy l (left_of l.atoms codes) conflict code list (Err why) lefts list'
           → (lefts ≡ left_of l.atoms codes) × SetBy (pair_meaning l r) codes conflict code list (Err why) codes list'
       refused_left = refused_left_by (clash_count why)
 
-    pub gained_left : (lefts list' : List ℕ) → Gained l (left_of l.atoms codes) code list lefts list' → Grown l r codes code list lefts (right_of l.atoms codes) list'
-    gained_left lefts list' k =
+    gained_left : (l' : Meaning) (lefts list' : List ℕ) → l' ≡ l → Gained l (left_of l.atoms codes) code list lefts list'
+        → Grown l r l' r codes code list lefts (right_of l.atoms codes) list'
+    gained_left l' lefts list' same k =
         record {
+          left_same = same;
+          right_same = refl;
           gained = record { reason = ground_left ∙ k.reason; grown = refl; list_same = k.list_same };
           left_grown = k.grown ∙ sym (left_of_more l.atoms codes code h);
           right_grown = sym (right_of_same l.atoms codes code h);
@@ -124,15 +132,86 @@ module _ (l r : Meaning) (codes : List ℕ) (code : ℕ) (list : List ℕ) (belo
             },
           )
 
-    pub refused_right : (conflict : ℕ → List ℕ) (rights list' : List ℕ) (why : Refusal)
+    refused_right : (conflict : ℕ → List ℕ) (rights list' : List ℕ) (why : Refusal)
         → RaisedSetBy cut r (right_of l.atoms codes) conflict code list (Err why) rights list'
         → (rights ≡ right_of l.atoms codes) × SetBy (pair_meaning l r) codes (raised cut (conflict (code - cut))) code list (Err why) codes list'
     refused_right conflict rights list' why s = refused_right_by (conflict (code - cut)) rights s.0 list' why (clash_count why) s.1.0 s.1.1
 
-    pub gained_right : (rights list' : List ℕ) → Gained r (right_of l.atoms codes) (code - cut) list rights list' → Grown l r codes code list (left_of l.atoms codes) rights list'
-    gained_right rights list' k =
+    gained_right : (r' : Meaning) (rights list' : List ℕ) → r' ≡ r → Gained r (right_of l.atoms codes) (code - cut) list rights list'
+        → Grown l r l r' codes code list (left_of l.atoms codes) rights list'
+    gained_right r' rights list' same k =
         record {
+          left_same = refl;
+          right_same = same;
           gained = record { reason = ground_right ∙ k.reason; grown = refl; list_same = k.list_same };
           left_grown = sym (left_of_same l.atoms codes code h);
           right_grown = k.grown ∙ sym (right_of_more l.atoms codes code h);
         }
+
+-- What `set` of a side does to a pair: the literal is of an atom that there is, and the list is long enough.
+module _ {l r : Meaning} {lefts rights codes : List ℕ} {places : ℕ} {cut sizes : Sizes} (t : Together l r lefts rights codes places cut sizes)
+    (code : ℕ) (list : List ℕ) (below : atom_of code < sizes.atoms) (long : sizes.atoms ≤ length list) where
+  cut_atoms : cut.atoms ≡ l.atoms
+  cut_atoms = ap (λ s. s.atoms) t.cut_is
+
+  shown : shown_pair places l r ≡ pair_meaning l r
+  shown =
+      let are : sizes.atoms ≡ (shown_pair places l r).atoms = ap (λ s. s.atoms) t.sizes_are in
+      ap (λ b. shown_if b l r) (fits_if_any places l r (omega arith))
+
+  sum : sizes.atoms ≡ l.atoms + r.atoms
+  sum = ap (λ s. s.atoms) t.sizes_are ∙ ap (λ (m : Meaning). m.atoms) shown
+
+  module _ (lconf rconf : ℕ → List ℕ) (side' list' : List ℕ) (why : Refusal) (answer : Result (Unit {0}) Refusal) (is : answer ≡ Err why) where
+    pub left_refused : code < 2 * cut.atoms → SetBy l lefts (lconf code) code list (Err why) side' list'
+        → SetBy (shown_pair places l r) codes (pair_conflict l.atoms lconf rconf code) code list answer codes list'
+    left_refused h s =
+        let e : pair_conflict l.atoms lconf rconf code ≡ lconf code = cond-true (is_left l.atoms code) _ _ (lt-ltb code (2 * l.atoms) (omega (arith, cut_atoms))) in
+        let s' = refused_left l r codes code list (omega (arith, sum)) (omega (arith, sum)) (omega (arith, cut_atoms)) (lconf code) side' list' why
+        (subst (λ ls. SetBy l ls (lconf code) code list (Err why) side' list') t.left_stack s) in
+        rw (is, shown, e) s'.1
+
+    pub right_refused : 2 * cut.atoms ≤ code → RaisedSetBy (2 * cut.atoms) r rights rconf code list (Err why) side' list'
+        → SetBy (shown_pair places l r) codes (pair_conflict l.atoms lconf rconf code) code list answer codes list'
+    right_refused h s =
+        let e : pair_conflict l.atoms lconf rconf code ≡ raised (2 * l.atoms) (rconf (code - 2 * l.atoms)) = cond-false (is_left l.atoms code) _ _ (le-ltb code (2 * l.atoms) (omega (arith, cut_atoms))) in
+        let s' = refused_right l r codes code list (omega (arith, sum)) (omega (arith, sum)) (omega (arith, cut_atoms)) rconf side' list' why
+        (subst (λ n. RaisedSetBy (2 * n) r (right_of l.atoms codes) rconf code list (Err why) side' list') cut_atoms
+        (subst (λ rs. RaisedSetBy (2 * cut.atoms) r rs rconf code list (Err why) side' list') t.right_stack s)) in
+        rw (is, shown, e) s'.1
+
+  pub left_gained : {l' : Meaning} {lefts' list' : List ℕ} → code < 2 * cut.atoms → l' ≡ l → Gained l lefts code list lefts' list'
+      → Grown l r l' r codes code list lefts' rights list'
+  left_gained {l'} {lefts'} {list'} h same s =
+      subst (λ rs. Grown l r l' r codes code list lefts' rs list') (sym t.right_stack)
+      (gained_left l r codes code list (omega (arith, sum)) (omega (arith, sum)) (omega (arith, cut_atoms)) l' lefts' list' same
+      (subst (λ ls. Gained l ls code list lefts' list') t.left_stack s))
+
+  pub right_gained : (rconf : ℕ → List ℕ) {r' : Meaning} {rights' list' : List ℕ} → 2 * cut.atoms ≤ code → r' ≡ r
+      → RaisedSetBy (2 * cut.atoms) r rights rconf code list (Ok tt) rights' list' → Grown l r l r' codes code list lefts rights' list'
+  right_gained rconf {r'} {rights'} {list'} h same s =
+      subst (λ ls. Grown l r l r' codes code list ls rights' list') (sym t.left_stack)
+      (gained_right l r codes code list (omega (arith, sum)) (omega (arith, sum)) (omega (arith, cut_atoms)) r' rights' list' same
+      (rw s.1.1 (subst (λ n. Gained r (right_of l.atoms codes) (code - 2 * n) list rights' s.0) cut_atoms
+      (subst (λ rs. Gained r rs (code - 2 * cut.atoms) list rights' s.0) t.right_stack s.1.0))))
+
+  module _ {l' r' : Meaning} {lefts' rights' list' : List ℕ} (g : Grown l r l' r' codes code list lefts' rights' list') where
+    gained_shown : Gained (shown_pair places l r) codes code list (codes ++ (code ∷ [])) list'
+    gained_shown = rw shown g.gained
+
+    passed : ground_answer (set_ground (shown_pair places l r).atoms codes code (length list)) ≡ Ok tt
+    passed = ap ground_answer gained_shown.reason
+
+    -- so there is a place for it
+    pub grown_room : length codes < places
+    grown_room = omega (arith, set_room (shown_pair places l r).atoms codes code (length list) t.apart passed, pair_room places l r)
+
+    module _ {codes' : List ℕ} (e : codes' ≡ codes ++ (code ∷ [])) where
+      pub grown_gained : Gained (shown_pair places l r) codes code list codes' list'
+      grown_gained = rw e gained_shown
+
+      -- and then the sides are together again
+      pub grown_together : {places' : ℕ} → places' ≡ places → Together l' r' lefts' rights' codes' places' cut sizes
+      grown_together ep =
+          together_after t g.left_same g.right_same ep (rw e g.left_grown) (rw e g.right_grown)
+          (rw e (set_apart (shown_pair places l r).atoms codes code (length list) t.apart passed))
