@@ -1,6 +1,7 @@
 -- What a pair shows, and that its sides stay together.
-use Rattle.std.proofs.Common.{◌≡◌, ℕ, ◌+◌, ◌<◌, ◌≤◌, Bool, true, false, List, refl, arith}
+use Rattle.std.proofs.Common.{◌≡◌, ℕ, ◌+◌, ◌<◌, ◌≤◌, Bool, true, false, List, length, refl, arith}
 use Rattle.std.proofs.lemmas.Bool.Decides.{nat_tests}
+use Rattle.theory.proofs.Apart.{different_few}
 use Rattle.theory.specs.declared.Sizes.{Sizes}
 use Rattle.theory.specs.Meaning.{Meaning, different}
 use Rattle.pair.specs.Pairs.{left_of, right_of, sizes_of, pair_fits, shown_if, shown_pair, Together}
@@ -24,3 +25,7 @@ pub together_after : {l r l' r' : Meaning} {lefts rights codes lefts' rights' co
     → lefts' ≡ left_of l.atoms codes' → rights' ≡ right_of l.atoms codes' → different (shown_pair places l r).atoms codes' ≡ true
     → Together l' r' lefts' rights' codes' places' cut sizes
 together_after t el er ep ls rs d = record { left_stack = cc; right_stack = cc; cut_is = cc; sizes_are = cc; apart = cc }
+
+-- there is a place for each literal that is set
+pub together_room : {l r : Meaning} {lefts rights codes : List ℕ} {places : ℕ} {cut sizes : Sizes} → Together l r lefts rights codes places cut sizes → length codes ≤ places
+together_room {l} {r} {codes = codes} {places = places} t = omega (arith, different_few (shown_pair places l r).atoms codes t.apart, pair_room places l r)
