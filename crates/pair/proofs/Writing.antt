@@ -1,8 +1,8 @@
 -- The world of a pair is written in two parts.
-use Rattle.std.proofs.Common.{◌≡◌, ℕ, ◌+◌, ◌-◌, ◌<◌, ◌≤◌, ltb, List, [], ◌++◌, length, take, drop, ℤ, sym, ap, ◌∙◌, arith}
+use Rattle.std.proofs.Common.{◌≡◌, ℕ, ◌+◌, ◌-◌, ◌<◌, ◌≤◌, List, [], ◌++◌, length, take, drop, ℤ, sym, ap, ◌∙◌, arith}
 use borrow.Rule.Slice.PartMut.{put_mid}
 use Rattle.std.proofs.lemmas.List.{append_assoc, append-nil, drop_all, drop_at, drop-drop, length-drop, nil_from_length, take_at, take_rest}
-use Rattle.std.proofs.lemmas.Bool.{cond-false, le-ltb}
+use Rattle.std.proofs.lemmas.Bool.Decides.{nat_tests}
 use Rattle.theory.specs.Calls.{world_written}
 use Rattle.theory.specs.declared.Sizes.{Sizes}
 use Rattle.theory.specs.Meaning.{Meaning}
@@ -10,8 +10,7 @@ use Rattle.pair.proofs.Together.{fits_if_any}
 use Rattle.pair.specs.Pairs.{sizes_of, pair_fits, pair_world, shown_if, shown_pair, Together}
 
 long_written : (variables : ℕ) (world list : List ℤ) → variables ≤ length list → world_written variables world list ≡ world ++ drop variables list
-long_written variables world list long =
-    cond-false (ltb (length list) variables) list (world ++ drop variables list) (le-ltb (length list) variables long)
+long_written variables world list long = grind (arith, nat_tests)
 
 -- no variables, so nothing is written
 pub nothing_written : (variables : ℕ) (world list : List ℤ) → length world ≡ variables → variables ≡ 0 → world_written variables world list ≡ list

@@ -6,4 +6,4 @@ pub raise-requires : goal.raise-requires
 raise-requires g c =
     let t = c.args.theory.now in
     raised_fit (g.T.Theory.meaning t) (g.T.Theory.stack t) (g.T.Theory.given_conflict t (c.args.code - c.args.by)) (c.args.code - c.args.by) c.args.conflict.now _ _
-    (c.in-Err-Clash.is ∙ ap Err (rw c.in-Err-Clash.is at c.in-Err-Clash.field-0-is)) c.set-answer.ensures.by c.args.by (g.met.T.Theory.lawful t).few_atoms (g.met.T.Theory.apart t) c.requires.1 (omega arith)
+    (c.in-Err-Clash.is ∙ ap Err (rw c.in-Err-Clash.is at c.in-Err-Clash.field-0-is)) c.set-answer.ensures.by _ (g.met.T.Theory.lawful t).few_atoms (g.met.T.Theory.apart t) (omega arith) (omega arith)

@@ -11,8 +11,8 @@ use Rattle.pair.proofs.PairTheory.retreat.Goals.{After-count_left-lefts, In_err-
 drops : (g : Over) (c : After-count_left-lefts g) → Newest (g.L.Theory.meaning c.args.self.now.left).atoms (codes_of c.args.self.now) c.args.count c.count_left-lefts.result
 drops g c =
     let p = c.args.self.now in
-    newest _ c.records-came.result.now (vec_items p.stack.records) c.args.count c.records-came.ensures c.if-count-came.false
-    (rw (← ap (λ (s : Sizes). s.atoms) p.together.cut_is) c.count_left-lefts.ensures)
+    newest _ (vec_items p.stack.records) c.args.count (rw (← c.records-came.ensures) c.if-count-came.false)
+    (rw (← ap (λ (s : Sizes). s.atoms) p.together.cut_is, ← c.records-came.ensures) c.count_left-lefts.ensures)
 
 pub returns-in_err-retreat : goal.returns-in_err-retreat
 returns-in_err-retreat g c =

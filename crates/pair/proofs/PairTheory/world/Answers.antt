@@ -15,4 +15,4 @@ returns-then-self-eq0-clause-written g c =
 pub returns-clause-written : goal.returns-clause-written
 returns-clause-written g c =
     let p = c.args.self.now in
-    world_put (g.L.Theory.given_world p.left) (g.R.Theory.given_world p.right) c.args.list.now p.together (omega arith) c.if-list-self.false (g.met.L.Theory.worldly p.left).whole c.world.ensures.written c.world-2.ensures.written
+    world_put (g.L.Theory.given_world p.left) (g.R.Theory.given_world p.right) c.args.list.now p.together (omega arith) (omega arith) (g.met.L.Theory.worldly p.left).whole c.world.ensures.written c.world-2.ensures.written
