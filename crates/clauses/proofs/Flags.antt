@@ -1,9 +1,9 @@
 -- Flags for the codes of set literals, as literals are put on and taken off.
-use Rattle.std.proofs.Common.{◌≡◌, ℕ, ◌+◌, ◌*◌, ◌<◌, ◌≤◌, Bool, true, false, not, ◌||◌, eqb, ltb, List, [], ◌∷◌, ◌++◌, reverse, length, get_or, set, replicate, sym, refl, ap, ◌∙◌, ⊎_elim, arith, length-set}
+use Rattle.std.proofs.Common.{◌≡◌, ℕ, ◌+◌, ◌*◌, ◌<◌, ◌≤◌, Bool, true, false, ◌||◌, List, [], ◌∷◌, ◌++◌, reverse, length, get_or, set, replicate, refl, ap, ◌∙◌, arith, length-set}
 use Rattle.std.proofs.lemmas.List.FromFn.{get_or-map-range_with_len, length-map-range_with_len, fill_by_all}
-use Rattle.std.proofs.lemmas.List.{get_or-set_same, get_or-set_other, get_or_read_under, get_or-replicate, length-replicate, reverse-append, length-map}
-use Rattle.std.proofs.lemmas.Bool.{and_parts, and_from, or_left, both_ways, cases_eq, cases_Bool, eq-eqb, ne_eqb, ltb-true, lt-ltb, not-true, not_from_false}
+use Rattle.std.proofs.lemmas.List.{get_or_read_under, length-replicate, reverse-append, length-map}
 use Rattle.std.proofs.lemmas.Bool.Decides.{nat_tests}
+use Rattle.std.proofs.lemmas.Grind.{common_steps}
 use Rattle.steps.specs.Steps.{Trail, codes_of}
 use Rattle.steps.specs.declared.Entry.{Entry}
 use Rattle.steps.proofs.Judged.{has_names}
@@ -12,47 +12,40 @@ use Rattle.theory.specs.Meaning.{atom_of, has, names, different}
 use Rattle.theory.proofs.Apart.{different_few}
 use Rattle.clauses.specs.Standing.{Kept, flags_of, can_set}
 
-pub flag_at : (atoms : ℕ) (codes : List ℕ) (c : ℕ) → c < 2 * atoms → get_or (flags_of atoms codes) c false ≡ has codes c
+flag_at : (atoms : ℕ) (codes : List ℕ) (c : ℕ) → c < 2 * atoms → get_or (flags_of atoms codes) c false ≡ has codes c
 flag_at atoms codes c h = get_or-map-range_with_len (has codes) 0 (2 * atoms) c c false h (omega arith)
 
-pub length_flags : (atoms : ℕ) (codes : List ℕ) → length (flags_of atoms codes) ≡ 2 * atoms
+length_flags : (atoms : ℕ) (codes : List ℕ) → length (flags_of atoms codes) ≡ 2 * atoms
 length_flags atoms codes = length-map-range_with_len (has codes) 0 (2 * atoms)
 
 -- no set literal is of an atom that is not there
-pub has_beyond : (atoms : ℕ) (codes : List ℕ) (c : ℕ) → different atoms codes ≡ true → 2 * atoms ≤ c → has codes c ≡ false
+has_beyond : (atoms : ℕ) (codes : List ℕ) (c : ℕ) → different atoms codes ≡ true → 2 * atoms ≤ c → has codes c ≡ false
 has_beyond atoms [] c d h = refl
 has_beyond atoms (x ∷ codes) c d h =
     let p = different_tail atoms x codes d in
     let i = has_beyond atoms codes c p.1 h in
-    let other : eqb x c ≡ false = ne_eqb x c (λ e. omega (arith, e, h, p.0.0)) in
-    ap (λ b. b || has codes c) other ∙ i
+    grind (arith, nat_tests, p)
 
-pub flags_push : (atoms : ℕ) (codes : List ℕ) (c : ℕ) → c < 2 * atoms → set (flags_of atoms codes) c true ≡ flags_of atoms (c ∷ codes)
+flags_push : (atoms : ℕ) (codes : List ℕ) (c : ℕ) → c < 2 * atoms → set (flags_of atoms codes) c true ≡ flags_of atoms (c ∷ codes)
 flags_push atoms codes c h =
     fill_by_all (has (c ∷ codes)) (set (flags_of atoms codes) c true) (2 * atoms) false (length-set (flags_of atoms codes) c true ∙ length_flags atoms codes)
-    (λ k l. ⊎_elim
-    (λ e. ap (λ j. get_or (set (flags_of atoms codes) c true) j false) (sym e) ∙ get_or-set_same (flags_of atoms codes) c true false (omega (arith, length_flags atoms codes, h)) ∙ sym (or_left (eqb c k) (has codes k) (eq-eqb c k e)))
-    (λ n. get_or-set_other (flags_of atoms codes) c k true false (λ e. n (sym e)) ∙ flag_at atoms codes k l ∙ sym (ap (λ b. b || has codes k) (ne_eqb c k n)))
-    (cases_eq c k))
+    (λ k l. grind (arith, common_steps, nat_tests, flag_at atoms codes k, length_flags atoms codes))
 
-pub flags_pop : (atoms : ℕ) (codes : List ℕ) (c : ℕ) → c < 2 * atoms → has codes c ≡ false → set (flags_of atoms (c ∷ codes)) c false ≡ flags_of atoms codes
+flags_pop : (atoms : ℕ) (codes : List ℕ) (c : ℕ) → c < 2 * atoms → has codes c ≡ false → set (flags_of atoms (c ∷ codes)) c false ≡ flags_of atoms codes
 flags_pop atoms codes c h gone =
-    fill_by_all (has codes) (set (flags_of atoms (c ∷ codes)) c false) (2 * atoms) false (length-set (flags_of atoms (c ∷ codes)) c false ∙ length_flags atoms (c ∷ codes))
-    (λ k l. ⊎_elim
-    (λ e. ap (λ j. get_or (set (flags_of atoms (c ∷ codes)) c false) j false) (sym e) ∙ get_or-set_same (flags_of atoms (c ∷ codes)) c false false (omega (arith, length_flags atoms (c ∷ codes), h)) ∙ sym (ap (has codes) (sym e) ∙ gone))
-    (λ n. get_or-set_other (flags_of atoms (c ∷ codes)) c k false false (λ e. n (sym e)) ∙ flag_at atoms (c ∷ codes) k l ∙ ap (λ b. b || has codes k) (ne_eqb c k n))
-    (cases_eq c k))
+    let flags = flags_of atoms (c ∷ codes) in
+    fill_by_all (has codes) (set flags c false) (2 * atoms) false (length-set flags c false ∙ length_flags atoms (c ∷ codes))
+    (λ k l. grind (arith, common_steps, nat_tests, flag_at atoms (c ∷ codes) k, length_flags atoms (c ∷ codes)))
 
 pub can_set_facts : (atoms : ℕ) (codes : List ℕ) (c : ℕ) → can_set atoms codes c ≡ true → (atom_of c < atoms) × (names codes (atom_of c) ≡ false)
-can_set_facts atoms codes c h =
-    let p = and_parts (ltb (atom_of c) atoms) (not (names codes (atom_of c))) h in (ltb-true (atom_of c) atoms p.0, not-true (names codes (atom_of c)) p.1)
+can_set_facts atoms codes c h = grind (arith, nat_tests)
 
 -- with nothing set no flag is raised
 pub kept_none : (atoms room : ℕ) → atoms ≤ room → Kept atoms room [] (replicate (2 * atoms) false)
 kept_none atoms room r = record {
   room = r;
   apart = refl;
-  flagged = fill_by_all (has []) (replicate (2 * atoms) false) (2 * atoms) false (length-replicate (2 * atoms) false) (λ k l. get_or-replicate (2 * atoms) k false false l);
+  flagged = fill_by_all (has []) (replicate (2 * atoms) false) (2 * atoms) false (length-replicate (2 * atoms) false) (λ k l. grind (arith, common_steps));
 }
 
 module _ {atoms room : ℕ} {trail : Trail} {flags : List Bool} (kept : Kept atoms room trail flags) where
@@ -72,9 +65,13 @@ module _ {atoms room : ℕ} {trail : Trail} {flags : List Bool} (kept : Kept ato
   module _ (e : Entry) (free : can_set atoms (codes_of trail) e.code ≡ true) where
     -- there is room for one more
     pub room_left : length trail < atoms
-    room_left =
-        let f = can_set_facts atoms (codes_of trail) e.code free in
-        omega (arith, different_few atoms (e.code ∷ codes_of trail) (different_add atoms e.code (codes_of trail) f kept.apart), length-map trail (λ (e : Entry). e.code))
+    room_left = grind (
+      arith,
+      nat_tests,
+      different_few atoms (e.code ∷ codes_of trail),
+      kept.apart,
+      length-map trail (λ (e : Entry). e.code),
+    )
 
     pub kept_push : (room' : ℕ) → room ≤ room' → Kept atoms room' (e ∷ trail) (set flags e.code true)
     kept_push room' r =
@@ -98,14 +95,10 @@ module _ {atoms room : ℕ} {trail : Trail} {flags : List Bool} {e : Entry} (kep
 
   -- an atom is named once, so the literal is set no more
   pub newest_free : can_set atoms (codes_of trail) e.code ≡ true
-  newest_free =
-      let f = newest_facts.0 in
-      and_from (ltb (atom_of e.code) atoms) (not (names (codes_of trail) (atom_of e.code))) (lt-ltb (atom_of e.code) atoms f.0) (not_from_false (names (codes_of trail) (atom_of e.code)) f.1)
+  newest_free = let f = newest_facts in grind (arith, nat_tests)
 
   newest_gone : has (codes_of trail) e.code ≡ false
-  newest_gone =
-      ⊎_elim (λ h. absurd (both_ways (names (codes_of trail) (atom_of e.code)) newest_facts.0.1 (has_names (codes_of trail) e.code h)))
-      (λ h. h) (cases_Bool (has (codes_of trail) e.code))
+  newest_gone = grind (arith, newest_facts, has_names (codes_of trail) e.code)
 
   pub kept_pop : (room' : ℕ) → room ≤ room' → Kept atoms room' trail (set flags e.code false)
   kept_pop room' r = record {

@@ -1,7 +1,7 @@
 -- Clauses at places in one list of literals, as one more is put on the end.
-use Rattle.std.proofs.Common.{◌≡◌, ℕ, zero, suc, ◌+◌, ◌-◌, ◌<◌, ◌≤◌, Bool, true, false, ◌&&◌, ◌||◌, ltb, leb, List, [], ◌∷◌, ◌++◌, length, get_or, take, drop, None, sym, refl, ap, ◌∙◌, arith}
+use Rattle.std.proofs.Common.{◌≡◌, ℕ, zero, suc, ◌+◌, ◌-◌, ◌<◌, ◌≤◌, true, false, List, [], ◌∷◌, ◌++◌, length, get_or, take, drop, None, sym, refl, ap, ◌∙◌, arith}
 use Rattle.std.proofs.lemmas.List.{length-append, length-drop, drop-append-le, take-append-le, drop_at, take_all, map_push}
-use Rattle.std.proofs.lemmas.Bool.{and_parts, and_from, leb-true, le-leb, le-ltb, or_from}
+use Rattle.std.proofs.lemmas.Bool.Decides.{nat_tests}
 use Rattle.steps.specs.Calls.{are_atoms_below, atom_twice, literals_in, post_ground}
 use Rattle.steps.specs.Clauses.{Clause}
 use Rattle.clauses.specs.Placed.{Placed, clause_at, clauses_at, within}
@@ -13,15 +13,7 @@ clause_at_append literals more p b e =
     ∙ take-append-le (p.end - p.start) (drop p.start literals) more (omega (arith, length-drop p.start literals))
 
 within_parts : (n : ℕ) (p : Range ℕ) (places : List (Range ℕ)) → within n (p ∷ places) ≡ true → (p.start ≤ p.end) × (p.end ≤ n) × (within n places ≡ true)
-within_parts n p places w =
-    let a = and_parts (leb p.start p.end) (leb p.end n && within n places) w in
-    let b = and_parts (leb p.end n) (within n places) a.1 in
-    (leb-true p.start p.end a.0, leb-true p.end n b.0, b.1)
-
-within_from : (n : ℕ) (p : Range ℕ) (places : List (Range ℕ)) → p.start ≤ p.end → p.end ≤ n → within n places ≡ true → within n (p ∷ places) ≡ true
-within_from n p places b e w =
-    and_from (leb p.start p.end) (leb p.end n && within n places) (le-leb p.start p.end b)
-    (and_from (leb p.end n) (within n places) (le-leb p.end n e) w)
+within_parts n p places w = grind (arith, nat_tests)
 
 clauses_at_append : (literals more : List ℕ) (places : List (Range ℕ)) → within (length literals) places ≡ true → clauses_at (literals ++ more) places ≡ clauses_at literals places
 clauses_at_append literals more [] w = refl
@@ -37,10 +29,10 @@ clause_at_new literals clause p b e =
     ∙ take_all (p.end - p.start) clause (omega arith)
 
 within_push : (n m : ℕ) (places : List (Range ℕ)) (p : Range ℕ) → within n places ≡ true → n ≤ m → p.start ≤ p.end → p.end ≤ m → within m (places ++ (p ∷ [])) ≡ true
-within_push n m [] p w l b e = within_from m p [] b e refl
+within_push n m [] p w l b e = grind (arith, nat_tests)
 within_push n m (q ∷ places) p w l b e =
-    let f = within_parts n q places w in
-    within_from m q (places ++ (p ∷ [])) f.0 (omega (arith, f.1)) (within_push n m places p f.2 l b e)
+    let i : within n places ≡ true → within m (places ++ (p ∷ [])) ≡ true = λ h. within_push n m places p h l b e in
+    grind (arith, nat_tests)
 
 literals_push : (clauses : List Clause) (clause : Clause) → literals_in (clauses ++ (clause ∷ [])) ≡ literals_in clauses + length clause
 literals_push [] clause = omega arith
@@ -74,15 +66,7 @@ module _ {capacity clause_capacity : ℕ} {literals : List ℕ} {places : List (
         total = ap literals_in clauses_push ∙ literals_push (clauses_at literals places) clause ∙ ap (λ n. n + length clause) placed.total ∙ sym long;
       }
 
--- the ground on which a clause over known atoms, each named once, is refused
-module _ (atoms : ℕ) (clauses : List Clause) (clause : Clause) (below : are_atoms_below atoms clause ≡ true) (once : atom_twice clause ≡ false) where
-  abbrev full : Bool
-  full = ltb 256 (length clauses + 1) || ltb 2048 (literals_in clauses + length clause)
-
-  pub ground_none : length clauses < 256 → literals_in clauses + length clause ≤ 2048 → post_ground atoms clauses clause ≡ None
-  ground_none k l =
-      let f : full ≡ false =
-      or_from (ltb 256 (length clauses + 1)) (ltb 2048 (literals_in clauses + length clause)) (le-ltb 256 (length clauses + 1) (omega arith))
-      (le-ltb 2048 (literals_in clauses + length clause) l)
-      in
-      cc
+-- a clause over known atoms, each named once, is posted where there is room
+pub ground_none : (atoms : ℕ) (clauses : List Clause) (clause : Clause) → are_atoms_below atoms clause ≡ true → atom_twice clause ≡ false
+    → length clauses < 256 → literals_in clauses + length clause ≤ 2048 → post_ground atoms clauses clause ≡ None
+ground_none atoms clauses clause below once k l = grind (arith, nat_tests)

@@ -1,4 +1,4 @@
--- Loops over a list that may return early: what is left of the list gives the result of the whole.
+-- What searches through a list, a clause or a range find.
 use Rattle.std.proofs.Common.{zero, suc, Bor, IfSome, IsSomeAnd, option_map, ◌≡◌, ℕ, ◌+◌, ◌<◌, ◌≤◌, Bool, true, false, cond, ◌&&◌, ◌||◌, List, [], ◌∷◌, length, get_or, Some, None, Option, MatchOption, sym, ap, ◌∙◌, arith}
 use Rattle.std.specs.List.{list_any, list_all, HoldsAt}
 use Rattle.std.specs.Iterator.Runs.{Run, ItemsMapTo, AllItemsGive, IsFirstToGive}

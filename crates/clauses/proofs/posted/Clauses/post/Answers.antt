@@ -10,7 +10,6 @@ invariant_of-self c =
 
 pub returns-clause-posted : goal.returns-clause-posted
 returns-clause-posted c =
-    let kept = c.self.invariant in
     let clauses = clauses_at c.self.inside.literals.items c.self.inside.places.items in
     let count = length-map c.self.inside.places.items (clause_at c.self.inside.literals.items) in
     let reason = ground_none c.args.atoms clauses c.args.clause.now (sym c.if-not-atoms_below.ensures) (sym c.if-names_twice.ensures) (omega (arith, c.self.inside.places.ok.0)) (omega (arith, c.self.inside.literals.ok.0)) in
