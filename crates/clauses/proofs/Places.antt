@@ -12,16 +12,12 @@ clause_at_append literals more p b e =
     ap (take (p.end - p.start)) (drop-append-le p.start literals more (omega arith))
     ∙ take-append-le (p.end - p.start) (drop p.start literals) more (omega (arith, length-drop p.start literals))
 
-within_parts : (n : ℕ) (p : Range ℕ) (places : List (Range ℕ)) → within n (p ∷ places) ≡ true → (p.start ≤ p.end) × (p.end ≤ n) × (within n places ≡ true)
-within_parts n p places w = grind (arith, nat_tests)
-
 clauses_at_append : (literals more : List ℕ) (places : List (Range ℕ)) → within (length literals) places ≡ true → clauses_at (literals ++ more) places ≡ clauses_at literals places
 clauses_at_append literals more [] w = refl
 clauses_at_append literals more (p ∷ places) w =
-    let f = within_parts (length literals) p places w in
-    let h = clause_at_append literals more p f.0 f.1 in
-    let t = clauses_at_append literals more places f.2 in
-    cc
+    let h = clause_at_append literals more p in
+    let t = clauses_at_append literals more places in
+    grind (arith, nat_tests)
 
 clause_at_new : (literals clause : List ℕ) (p : Range ℕ) → p.start ≡ length literals → p.end ≡ length literals + length clause → clause_at (literals ++ clause) p ≡ clause
 clause_at_new literals clause p b e =
@@ -42,8 +38,8 @@ literals_push (k ∷ clauses) clause = omega (arith, literals_push clauses claus
 pub within_item : (n : ℕ) (places : List (Range ℕ)) (i : ℕ) (p : Range ℕ) → within n places ≡ true → i < length places → p ≡ get_or places i p
     → (p.start ≤ p.end) × (p.end ≤ n)
 within_item n [] i p w h is = absurd (omega arith)
-within_item n (q ∷ places) zero p w h is = rw is (let f = within_parts n q places w in (f.0, f.1))
-within_item n (q ∷ places) (suc i) p w h is = within_item n places i p (within_parts n q places w).2 (omega arith) is
+within_item n (q ∷ places) zero p w h is = rw is (grind (arith, nat_tests))
+within_item n (q ∷ places) (suc i) p w h is = within_item n places i p (grind (arith, nat_tests)) (omega arith) is
 
 -- one more clause
 module _ {capacity clause_capacity : ℕ} {literals : List ℕ} {places : List (Range ℕ)} (placed : Placed capacity clause_capacity literals places)

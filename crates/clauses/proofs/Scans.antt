@@ -1,5 +1,5 @@
 -- What searches through a list, a clause or a range find.
-use Rattle.std.proofs.Common.{zero, suc, Bor, IfSome, IsSomeAnd, option_map, ◌≡◌, ℕ, ◌+◌, ◌<◌, ◌≤◌, Bool, true, false, cond, ◌&&◌, ◌||◌, List, [], ◌∷◌, length, get_or, Some, None, Option, MatchOption, sym, ap, ◌∙◌, arith}
+use Rattle.std.proofs.Common.{zero, suc, Bor, IfSome, IsSomeAnd, option_map, ◌≡◌, ℕ, ◌+◌, ◌<◌, ◌≤◌, Bool, true, false, cond, ◌&&◌, ◌||◌, List, [], ◌∷◌, length, get_or, Some, None, Option, MatchOption, sym, arith}
 use Rattle.std.specs.List.{list_any, list_all, HoldsAt}
 use Rattle.std.specs.Iterator.Runs.{Run, ItemsMapTo, AllItemsGive, IsFirstToGive}
 use denote.Param.Members.{Mut, Called}
@@ -10,12 +10,12 @@ use Rattle.theory.specs.Meaning.{names}
 pub any_by : {X : Type 0} (test : X → Bool) (any : List X → Bool) → any [] ≡ false → ((x : X) (xs : List X) → any (x ∷ xs) ≡ (test x || any xs))
     → (xs : List X) → list_any test xs ≡ any xs
 any_by test any none more [] = sym none
-any_by test any none more (x ∷ xs) = ap (λ b. test x || b) (any_by test any none more xs) ∙ sym (more x xs)
+any_by test any none more (x ∷ xs) = let i = any_by test any none more xs in cc (more x xs)
 
 pub all_by : {X : Type 0} (test : X → Bool) (all : List X → Bool) → all [] ≡ true → ((x : X) (xs : List X) → all (x ∷ xs) ≡ (test x && all xs))
     → (xs : List X) → list_all test xs ≡ all xs
 all_by test all none more [] = sym none
-all_by test all none more (x ∷ xs) = ap (λ b. test x && b) (all_by test all none more xs) ∙ sym (more x xs)
+all_by test all none more (x ∷ xs) = let i = all_by test all none more xs in cc (more x xs)
 
 -- the due literal of a clause, where this literal is the unset one of those before it
 abbrev pub due_with : List ℕ → Option ℕ → Clause → Option ℕ
@@ -27,20 +27,21 @@ module _ {X : Type 0} (find : X → Option ℕ) (first : List X → Option ℕ) 
     (more : (x : X) (xs : List X) → first (x ∷ xs) ≡ or_else (find x) (first xs)) where
   nowhere : (xs : List X) → ((k : ℕ) (d : X) → k < length xs → find (get_or xs k d) ≡ None) → first xs ≡ None
   nowhere [] h = none
-  nowhere (x ∷ xs) h = more x xs ∙ ap (λ o. or_else o (first xs)) (h 0 x (omega arith)) ∙ nowhere xs (λ k d l. h (suc k) d (omega arith))
+  nowhere (x ∷ xs) h = let i = nowhere xs (λ k d l. h (suc k) d (omega arith)) in cc (more x xs, h 0 x (omega arith))
 
   here : (xs : List X) (i y : ℕ) → i < length xs → ((d : X) → find (get_or xs i d) ≡ Some y) → ((k : ℕ) (d : X) → k < i → find (get_or xs k d) ≡ None) → first xs ≡ Some y
   here [] i y l h before = absurd (omega arith)
-  here (x ∷ xs) zero y l h before = more x xs ∙ ap (λ o. or_else o (first xs)) (h x)
+  here (x ∷ xs) zero y l h before = cc (more x xs, h x)
   here (x ∷ xs) (suc i) y l h before =
-      more x xs ∙ ap (λ o. or_else o (first xs)) (before 0 x (omega arith)) ∙ here xs i y (omega arith) h (λ k d b. before (suc k) d (omega arith))
+      let later = here xs i y (omega arith) h (λ k d b. before (suc k) d (omega arith)) in
+      cc (more x xs, before 0 x (omega arith))
 
   -- by a closure that answers as `find` does
   module _ {F : Type 0} (xs : List X) (g : Mut F (Bor X × Unit {0}) (Option ℕ)) (f : F)
       (calls : (a : Bor X × Unit {0}) (r : Option ℕ) (q : F) → Called g f a r q → (q ≡ f) × (r ≡ find a.0.now)) where
     given : (o : Option (Bor X)) (r : Option ℕ) (k : ℕ) → IfSome o (λ x. HoldsAt (λ y. x.now ≡ y) xs k) → IsSomeAnd o (λ x. Called g f (x, tt) r f) → (d : X) → find (get_or xs k d) ≡ r
     given None r k at call d = absurd call
-    given (Some x) r k at call d = ap find (sym (at d)) ∙ sym (calls (x, tt) r f call).1
+    given (Some x) r k at call d = cc (at d, (calls (x, tt) r f call).1)
 
     came : (o : Option (Bor X)) (z : X) → option_map (λ x. x.now) o ≡ Some z → IfSome o (λ x. Called g f (x, tt) None f) → IsSomeAnd o (λ x. Called g f (x, tt) None f)
     came None z e call = cc

@@ -16,7 +16,7 @@ pub fn opposite(code: u16) -> u16
     if code % 2 == 0 { code + 1 } else { code - 1 }
 }
 
-// The set literals, oldest first, which are of different atoms. The flags say it of each literal at one look.
+// The set literals, oldest first, which are of different atoms. The flags tell in one look whether a literal is set.
 #[derive(Drop)]
 pub struct Assignment {
     atoms: u16,
@@ -62,7 +62,13 @@ impl Assignment {
     pub fn has(&self, code: u16) -> bool
         ensures { result ≡ has (codes_of self.now.trail) code }
     {
-        let code = code as usize;
+        self.is_set(code as usize)
+    }
+
+    // The same of any code, also of one past those of the atoms.
+    fn is_set(&self, code: usize) -> bool
+        ensures { result ≡ has (codes_of self.now.trail) code }
+    {
         code < self.flags.len() && self.flags[code]
     }
 
@@ -71,7 +77,7 @@ impl Assignment {
         ensures { result ≡ names (codes_of self.now.trail) atom }
     {
         let plain = 2 * atom as usize;
-        plain < self.flags.len() && (self.flags[plain] || self.flags[plain + 1])
+        self.is_set(plain) || self.is_set(plain + 1)
     }
 
     // Whether the literal's atom is there and is unset.

@@ -18,8 +18,8 @@ pub const MOST_CLAUSES: usize = 256;
 
 pub const MOST_LITERALS: usize = 2048;
 
-// All literals in one list, and where each clause stands in it. A post never fails for want of memory, so all of it is
-// reserved beforehand, which lists of their own could not be.
+// All literals in one list, and where each clause stands in it: a post may not run out of memory, so room for all is
+// reserved when a question is opened.
 #[derive(Drop)]
 pub struct Clauses {
     literals: Vec<u16>,
