@@ -1,52 +1,31 @@
 -- The link between a question's trail and its theory, as literals are set and taken off.
-use Rattle.std.proofs.Common.{◌≡◌, ℕ, ◌<◌, true, false, not, ltb, List, [], ◌∷◌, ◌++◌, map, reverse, length, is_some, Some, None, Ok, Err, vec_items, vec_len, Option, sym, refl, ap, ◌∙◌, subst, arith}
-use Rattle.std.proofs.lemmas.List.{reverse-append, reverse-reverse, map_push, length_push}
-use Rattle.std.proofs.lemmas.Bool.{and_from, lt-ltb, le-ltb, not_from_false, cond-false, false≢true}
+use Rattle.std.proofs.Common.{◌≡◌, ℕ, ◌<◌, true, false, List, [], ◌∷◌, reverse, length, is_some, Some, None, Ok, vec_len, Option, sym, refl, ap, ◌∙◌, subst, arith}
+use Rattle.std.proofs.lemmas.Bool.{false≢true}
 use Rattle.std.specs.List.{AllByRecursion}
-use Rattle.refusals.specs.declared.Refusal.TheVariants.{MoreThanSet}
 use Rattle.clauses.specs.Standing.{can_set, newest, older}
 use Rattle.steps.specs.Calls.{are_atoms_below}
 use Rattle.steps.specs.Clauses.{Clause}
 use Rattle.steps.specs.Steps.{Trail, codes_of}
 use Rattle.steps.specs.declared.Entry.{Entry}
 use Rattle.steps.proofs.Judged.{none≢some}
-use Rattle.steps.proofs.Sound.{different_tail}
 use Rattle.theory.specs.Calls.{retreat_answer, retreated}
-use Rattle.theory.specs.Meaning.{Meaning, WorldOf, atom_of, names, different, HasWorld}
+use Rattle.theory.specs.Meaning.{Meaning, WorldOf, HasWorld}
 use Rattle.theory.specs.declared.Theory.{Ghosts}
 use Rattle.question.specs.Asked.{Linked, Same, clauses_of, trail_of, meaning_of}
 use Rattle.question.specs.declared.asked.Question.{Question}
-use Rattle.question.proofs.Sets.{world_of_trail, retreated_one}
+use Rattle.theory.proofs.Retreats.{retreat_went, retreated_push}
+use Rattle.question.proofs.Sets.{reverse_first, world_of_trail}
 
 some_entry : {a b : Entry} → ◌≡◌ {A = Option Entry} (Some a) (Some b) → a ≡ b
 some_entry e = cc
 
--- the newest entry is at the end
-pub at_the_end : (xs ys : List Entry) (e : Entry) → Some e ≡ newest (reverse xs) → reverse ys ≡ older (reverse xs) → (xs ≡ ys ++ (e ∷ [])) × (reverse xs ≡ e ∷ reverse ys)
-at_the_end xs ys e n o = parts (reverse xs) refl n o
-  where
-    parts : (t : Trail) → reverse xs ≡ t → Some e ≡ newest t → reverse ys ≡ older t → (xs ≡ ys ++ (e ∷ [])) × (reverse xs ≡ e ∷ reverse ys)
-    parts [] is n o = absurd (none≢some (sym n))
-    parts (x ∷ t) is n o =
-        let first : reverse xs ≡ e ∷ reverse ys = is ∙ ap (λ y. y ∷ t) (sym (some_entry n)) ∙ ap (λ r. e ∷ r) (sym o) in
-        (sym (reverse-reverse xs) ∙ ap reverse first ∙ reverse-append (e ∷ []) (reverse ys) ∙ ap (λ zs. zs ++ (e ∷ [])) (reverse-reverse ys), first)
-
-pub nothing_newest : (xs : List Entry) → None ≡ newest (reverse xs) → reverse xs ≡ []
-nothing_newest xs n = parts (reverse xs) n
-  where
-    parts : (t : Trail) → None ≡ newest t → t ≡ []
-    parts [] n = refl
-    parts (x ∷ t) n = absurd (none≢some n)
-
--- an entry that came off can be set again
-pub can_set_again : (n : ℕ) (e : Entry) (t t' : Trail) → t ≡ e ∷ t' → different n (codes_of t) ≡ true → can_set n (codes_of t') e.code ≡ true
-can_set_again n e t t' is d =
-    let p = (different_tail n e.code (codes_of t') (subst (λ x. different n (codes_of x) ≡ true) is d)).0 in
-    and_from (ltb (atom_of e.code) n) (not (names (codes_of t') (atom_of e.code))) (lt-ltb (atom_of e.code) n p.0) (not_from_false (names (codes_of t') (atom_of e.code)) p.1)
+pub nothing_newest : (t : Trail) → None ≡ newest t → t ≡ []
+nothing_newest [] n = refl
+nothing_newest (x ∷ t) n = absurd (none≢some n)
 
 module _ {T : Type 0} (theory : Ghosts T) where
   pub linked_from : (q q' : Question T) → Linked theory q → theory.made q'.theory → meaning_of theory q' ≡ meaning_of theory q
-      → q'.assignment.atoms ≡ q.assignment.atoms → theory.stack q'.theory ≡ map (λ e. e.code) (vec_items q'.assignment.entries)
+      → q'.assignment.atoms ≡ q.assignment.atoms → theory.stack q'.theory ≡ reverse (codes_of (trail_of q'))
       → vec_len q'.conflict ≡ vec_len q.conflict → clauses_of q' ≡ clauses_of q → Linked theory q'
   linked_from q q' l made same atoms stack conflict clauses =
       record {
@@ -63,22 +42,14 @@ module _ {T : Type 0} (theory : Ghosts T) where
   pub trail_has_world : (q : Question T) → Linked theory q → WorldOf (meaning_of theory q) (theory.stack q.theory) (theory.given_world q.theory)
       → HasWorld (meaning_of theory q) (codes_of (trail_of q))
   trail_has_world q l is =
-      world_of_trail (meaning_of theory q) (vec_items q.assignment.entries) (theory.given_world q.theory)
+      world_of_trail (meaning_of theory q) (codes_of (trail_of q)) (theory.given_world q.theory)
       (subst (λ stack. WorldOf (meaning_of theory q) stack (theory.given_world q.theory)) l.same_stack is)
 
-  -- the trail names different atoms
-  pub trail_apart : (q : Question T) → Linked theory q → different (meaning_of theory q).atoms (codes_of (trail_of q)) ≡ true
-  trail_apart q l = subst (λ n. different n (codes_of (trail_of q)) ≡ true) l.same_atoms q.assignment.apart
-
 -- the theory retreats by the entry that came off
-pub retreats_one : (stack : List ℕ) (xs ys : List Entry) (e : Entry) → stack ≡ map (λ e. e.code) xs → xs ≡ ys ++ (e ∷ [])
-    → (retreat_answer stack 1 ≡ Ok tt) × (retreated stack 1 ≡ map (λ e. e.code) ys)
-retreats_one stack xs ys e is end =
-    let same : stack ≡ map (λ e. e.code) (ys ++ (e ∷ [])) = is ∙ ap (map (λ e. e.code)) end in
-    let long : length stack ≡ length (map (λ (e : Entry). e.code) ys ++ (e.code ∷ [])) = ap length (same ∙ map_push (λ (e : Entry). e.code) ys e) in (
-      cond-false (ltb (length stack) 1) (Err MoreThanSet) (Ok tt) (le-ltb (length stack) 1 (omega (arith, long, length_push (map (λ (e : Entry). e.code) ys) e.code))),
-      ap (λ s. retreated s 1) same ∙ retreated_one ys e,
-    )
+pub retreats_one : (stack : List ℕ) (t t' : Trail) (e : Entry) → stack ≡ reverse (codes_of t) → t ≡ e ∷ t' → (retreat_answer stack 1 ≡ Ok tt) × (retreated stack 1 ≡ reverse (codes_of t'))
+retreats_one stack t t' e is end =
+    let same = is ∙ ap (λ t. reverse (codes_of t)) end ∙ reverse_first e.code (codes_of t') in
+    (ap (λ s. retreat_answer s 1) same ∙ retreat_went (reverse (codes_of t')) (e.code ∷ []) 1 refl, ap (λ s. retreated s 1) same ∙ retreated_push (reverse (codes_of t')) e.code)
 
 -- an entry that can be set is pushed
 pub pushed_entry : (n n' : ℕ) (t : Trail) (code : ℕ) → n' ≡ n → can_set n (codes_of t) code ≡ true → can_set n' (codes_of t) code ≡ true

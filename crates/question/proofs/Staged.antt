@@ -1,5 +1,5 @@
 -- What each call does, by the stage in which it comes.
-use Rattle.std.proofs.Common.{◌≡◌, ℕ, Bool, true, false, ltb, List, [], length, ℤ, Some, None, Ok, Err, vec_items, Option, Result, sym, refl, ◌∙◌, subst, arith}
+use Rattle.std.proofs.Common.{◌≡◌, ℕ, Bool, true, false, ltb, List, [], length, ℤ, Some, None, Ok, Err, Option, Result, sym, refl, ◌∙◌, subst, arith}
 use Rattle.std.proofs.ByRecursion.{All-push}
 use Rattle.std.proofs.lemmas.Bool.{cond-true, cond-false}
 use Rattle.std.specs.List.{AllByRecursion}
@@ -52,7 +52,7 @@ none_left none e = refl
 pub given_world_is_world : {T : Type 0} (theory : Ghosts T) (q : Question T) → Linked theory q → WorldOf (meaning_of theory q) (theory.stack q.theory) (theory.given_world q.theory)
     → WorldOf (meaning_of theory q) (codes_of (trail_of q)) (theory.given_world q.theory)
 given_world_is_world theory q l is =
-    trail_from_stack (meaning_of theory q) (vec_items q.assignment.entries) (theory.given_world q.theory)
+    trail_from_stack (meaning_of theory q) (codes_of (trail_of q)) (theory.given_world q.theory)
     (subst (λ stack. WorldOf (meaning_of theory q) stack (theory.given_world q.theory)) l.same_stack is)
 
 -- a clause that is posted is over the atoms that there are

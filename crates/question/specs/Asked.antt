@@ -1,12 +1,11 @@
 -- What holds of every question that was made by its own calls.
-use Rattle.std.specs.Prelude.{◌≡◌, ℕ, true, List, [], map, reverse, vec_items, vec_len}
+use Rattle.std.specs.Prelude.{◌≡◌, ℕ, true, List, [], reverse, vec_len}
 use Rattle.std.specs.List.{AllByRecursion}
-use Rattle.clauses.specs.Placed.{clauses_at}
 use Rattle.clauses.specs.declared.assignment.Assignment.{Assignment}
 use Rattle.clauses.specs.declared.posted.Clauses.{Clauses}
 use Rattle.steps.specs.Calls.{State, are_atoms_below}
 use Rattle.steps.specs.Clauses.{Clause}
-use Rattle.steps.specs.Steps.{Trail}
+use Rattle.steps.specs.Steps.{Trail, codes_of}
 use Rattle.theory.specs.Meaning.{Meaning}
 use Rattle.theory.specs.declared.Theory.{Ghosts}
 use Rattle.question.specs.Stages.{state_in}
@@ -15,11 +14,11 @@ use Rattle.question.specs.declared.Stage.TheVariants.{Open, Paused, Found, Close
 use Rattle.question.specs.declared.asked.Question.{Question}
 
 abbrev pub clauses_of : {T : Type 0} → Question T → List Clause
-clauses_of q = clauses_at (vec_items q.clauses.literals) (vec_items q.clauses.places)
+clauses_of q = q.clauses
 
 -- the trail, newest first
 abbrev pub trail_of : {T : Type 0} → Question T → Trail
-trail_of q = reverse (vec_items q.assignment.entries)
+trail_of q = q.assignment.trail
 
 abbrev pub state_of : {T : Type 0} → Question T → State
 state_of q = state_in q.stage (clauses_of q) (trail_of q)
@@ -31,7 +30,7 @@ meaning_of theory q = theory.meaning q.theory
 pub record Linked {T : Type 0} (theory : Ghosts T) (q : Question T) : Type 0 where
   pub theory_made : theory.made q.theory
   pub same_atoms : q.assignment.atoms ≡ (meaning_of theory q).atoms
-  pub same_stack : theory.stack q.theory ≡ map (λ e. e.code) (vec_items q.assignment.entries)
+  pub same_stack : theory.stack q.theory ≡ reverse (codes_of (trail_of q))
   pub conflict_places : vec_len q.conflict ≡ (meaning_of theory q).atoms
   pub atoms_there : AllByRecursion (λ clause. are_atoms_below (meaning_of theory q).atoms clause ≡ true) (clauses_of q)
 
@@ -55,7 +54,7 @@ pub record Same {T : Type 0} (theory : Ghosts T) (q q' : Question T) : Type 0 wh
 
 -- the memory of a question over so many atoms, with nothing in it
 pub record Reserved (atoms : ℕ) (clauses : Clauses) (assignment : Assignment) (places : ℕ) : Type 0 where
-  pub no_clause : clauses_at (vec_items clauses.literals) (vec_items clauses.places) ≡ []
+  pub no_clause : clauses ≡ []
   pub for_atoms : assignment.atoms ≡ atoms
-  pub nothing_set : vec_items assignment.entries ≡ []
+  pub nothing_set : assignment.trail ≡ []
   pub for_conflict : places ≡ atoms

@@ -26,7 +26,7 @@ returns g c =
     let l = c.requires.linked in
     let k = c.args.clause.now in
     let reason = post_ground c.atoms-atoms.result (clauses_of q) k in
-    let is : post_ground m.atoms (clauses_of q) k ≡ reason = ap (λ n. post_ground n (clauses_of q) k) (sym (c.atoms-atoms.ensures ∙ l.same_atoms)) in
+    let is : post_ground m.atoms (clauses_of q) k ≡ reason = ap (λ n. post_ground n (clauses_of q) k) (sym (c.atoms-atoms.ensures.count ∙ l.same_atoms)) in
     record {
       asked =
           record {
