@@ -13,7 +13,7 @@ use Rattle.relaxing.specs.declared.Limit.{Limit}
 use Rattle.relaxing.specs.Limits.{at, Met, Fits, moves, latest}
 use Rattle.relaxing.proofs.Finding.{latest_when_still, latest_from_met, length_latest}
 use Rattle.relaxing.proofs.Passes.{met_still}
-use Rattle.table_theory.specs.Drawing.{record_of, records_of, AllRecordsHold, SolverLaws}
+use Rattle.table_theory.specs.Drawing.{record_of, records_of, AllRecordsHold, ProcedureLaws}
 use Rattle.table_theory.specs.Laws.{worldly}
 use Rattle.theory.proofs.Drawn.{all_records}
 use Rattle.difference.specs.Differences.{spare_entry, entry_limit, limit_holds, have_times, difference_meaning, LatestWorld, codes_of}
@@ -93,7 +93,7 @@ code_of e code =
 still : (limits : List Limit) (variables : ℕ) → have_times limits variables ≡ true → moves limits (latest limits variables) ≡ false
 still limits variables h = not-true (moves limits (latest limits variables)) h
 
-pub limit_laws : SolverLaws difference_check (λ (l : Limit). l.code) entry_limit Fits limit_holds have_times latest
+pub limit_laws : ProcedureLaws difference_check (λ (l : Limit). l.code) entry_limit Fits limit_holds have_times latest
 limit_laws =
     record {
       asked_code = code_of;

@@ -6,17 +6,17 @@ ghost use Rattle.difference.specs.Differences.{spare_entry, entry_limit, limit_h
 ghost use Rattle.difference.specs.Laws;
 
 use relaxing::{Limit, relax};
-use table_theory::{Solver, TableTheory};
+use table_theory::{Procedure, TableTheory};
 use tables::DifferenceEntry;
 
 // A table of limits, of which a literal sets one or its opposite. The set limits always have times that meet them, and the
 // world is the latest of these times that are not above 0.
 pub type Difference = TableTheory<LatestTimes>;
 
-// Solves limits by the latest times that meet them.
+// Decides limits by the latest times that meet them.
 pub struct LatestTimes;
 
-impl Solver for LatestTimes {
+impl Procedure for LatestTimes {
     type Entry = DifferenceEntry;
 
     type Record = Limit;

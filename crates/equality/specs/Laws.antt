@@ -7,7 +7,7 @@ use Rattle.std.specs.List.{AllByRecursion}
 use Rattle.joining.proofs.Labelled.{length_labelled, holds_labelled, agrees_from_world, lowest_labelled}
 use Rattle.joining.specs.declared.Join.{Join}
 use Rattle.joining.specs.Joins.{Fits, labelled}
-use Rattle.table_theory.specs.Drawing.{records_of, SolverLaws}
+use Rattle.table_theory.specs.Drawing.{records_of, ProcedureLaws}
 use Rattle.table_theory.specs.Laws.{worldly}
 use Rattle.tables.specs.declared.EqualityEntry.{EqualityEntry}
 use Rattle.tables.specs.Entries.{equality_check, equality_fits}
@@ -19,7 +19,7 @@ one_of_two e a world = grind (arith, nat_tests)
 join_fits : (variables : ℕ) (e : EqualityEntry) (code : ℕ) → equality_fits variables e ≡ true → Fits variables (entry_join e code)
 join_fits variables e code h = record { a_below = grind (arith, nat_tests); b_below = grind (arith, nat_tests) }
 
-pub join_laws : SolverLaws equality_check (λ (j : Join). j.code) entry_join Fits holds_in have_numbers labelled
+pub join_laws : ProcedureLaws equality_check (λ (j : Join). j.code) entry_join Fits holds_in have_numbers labelled
 join_laws =
     record {
       asked_code = λ _ _. refl;

@@ -6,17 +6,17 @@ ghost use Rattle.equality.specs.Equalities.{spare_entry, entry_join, holds_in, e
 ghost use Rattle.equality.specs.Laws;
 
 use joining::{Join, join_all};
-use table_theory::{Solver, TableTheory};
+use table_theory::{Procedure, TableTheory};
 use tables::EqualityEntry;
 
 // A table of pairs of variables, of which a literal joins two or sets them apart. What is set always has a world, and the one
 // that is given has for each variable the lowest variable that set equalities join to it, its own included.
 pub type Equality = TableTheory<LowestJoined>;
 
-// Solves joins by the lowest variables that equalities join.
+// Decides joins by the lowest variables that equalities join.
 pub struct LowestJoined;
 
-impl Solver for LowestJoined {
+impl Procedure for LowestJoined {
     type Entry = EqualityEntry;
 
     type Record = Join;

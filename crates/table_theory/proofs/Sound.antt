@@ -10,11 +10,11 @@ use Rattle.theory.proofs.Apart.{different_few, different_take, different_below}
 use Rattle.theory.proofs.Drawn.{codes_push, drawn_push, drawn_take, all_records}
 use Rattle.theory.specs.Calls.{retreated}
 use Rattle.theory.specs.Meaning.{NoWorld, atom_of, different}
-use Rattle.table_theory.specs.Drawing.{fits_by, record_of, records_of, table_meaning, SolverLaws}
+use Rattle.table_theory.specs.Drawing.{fits_by, record_of, records_of, table_meaning, ProcedureLaws}
 use Rattle.table_theory.specs.Laws.{lawful}
 
 module _ {E R : Type 0} {checked : ℕ → E → Result (Unit {0}) Refusal} {coded : R → ℕ} {asked : E → ℕ → R} {Fits : ℕ → R → Type 0} {holds : R → List ℤ → Bool}
-    {solved : List R → ℕ → Bool} {solution : List R → ℕ → List ℤ} (laws : SolverLaws checked coded asked Fits holds solved solution) (spare : E) (variables : ℕ)
+    {solved : List R → ℕ → Bool} {solution : List R → ℕ → List ℤ} (laws : ProcedureLaws checked coded asked Fits holds solved solution) (spare : E) (variables : ℕ)
     (table : List E) where
   abbrev draw : ℕ → R
   draw code = record_of asked spare table code

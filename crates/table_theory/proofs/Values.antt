@@ -11,13 +11,13 @@ use Rattle.theory.proofs.Grounds.{set_accepted, set_room}
 use Rattle.theory.specs.Calls.{set_ground, ground_answer, Gained, Clashed}
 use Rattle.theory.specs.Meaning.{atom_of, names, different}
 use Rattle.theory.specs.declared.stack.Record.{Ghosts as RecordGhosts}
-use Rattle.table_theory.specs.Drawing.{fits_by, record_of, records_of, table_meaning, SolverLaws}
-use Rattle.table_theory.specs.declared.Solver.{Ghosts}
+use Rattle.table_theory.specs.Drawing.{fits_by, record_of, records_of, table_meaning, ProcedureLaws}
+use Rattle.table_theory.specs.declared.Procedure.{Ghosts}
 use Rattle.table_theory.specs.declared.TableTheory.{TableTheory}
 use Rattle.table_theory.proofs.Sound.{Kept, few_records, fit_grown, codes_grown, drawn_grown, no_world}
 
 pub kept_of : {S E R : Type 0} {s : Ghosts S E R} {e : EntryGhosts E} {r : RecordGhosts R}
-    (laws : SolverLaws e.checked r.coded s.asked s.Fits s.holds s.solved s.solution) (t : TableTheory S E R s e r)
+    (laws : ProcedureLaws e.checked r.coded s.asked s.Fits s.holds s.solved s.solution) (t : TableTheory S E R s e r)
     → Kept laws s.spare t.variables (vec_items t.table) (vec_items t.stack.records)
 kept_of {r = r} laws t =
     record { fits = t.fits; apart = different_at (map r.coded (vec_items t.stack.records)) t.apart t.table.ok.0; drawn = t.drawn; settled = t.settled }
@@ -31,7 +31,7 @@ pub record Fields {S E R : Type 0} {s : Ghosts S E R} {e : EntryGhosts E} {r : R
   pub settled : s.solved records t.variables ≡ true
 
 pub fields_of : {S E R : Type 0} {s : Ghosts S E R} {e : EntryGhosts E} {r : RecordGhosts R}
-    (laws : SolverLaws e.checked r.coded s.asked s.Fits s.holds s.solved s.solution) (t : TableTheory S E R s e r) (records : List R) (places : ℕ)
+    (laws : ProcedureLaws e.checked r.coded s.asked s.Fits s.holds s.solved s.solution) (t : TableTheory S E R s e r) (records : List R) (places : ℕ)
     → places ≡ vec_capacity t.stack.records → Kept laws s.spare t.variables (vec_items t.table) records → Fields t records places
 fields_of {r = r} laws t records places same k =
     record {
@@ -68,7 +68,7 @@ passed {r = r} t n code places same h =
     }
 
 module _ {S E R : Type 0} {s : Ghosts S E R} {e : EntryGhosts E} {r : RecordGhosts R}
-    (laws : SolverLaws e.checked r.coded s.asked s.Fits s.holds s.solved s.solution) (t : TableTheory S E R s e r) (code : ℕ) (list : List ℕ)
+    (laws : ProcedureLaws e.checked r.coded s.asked s.Fits s.holds s.solved s.solution) (t : TableTheory S E R s e r) (code : ℕ) (list : List ℕ)
     (p : Passed t code (length list)) where
   -- the record that is asked for
   pub record_read : (entry : E) (asked : R) → entry ≡ get_or (vec_items t.table) (code / 2) entry → asked ≡ s.asked entry code

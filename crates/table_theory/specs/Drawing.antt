@@ -26,9 +26,9 @@ table_meaning asked holds spare variables table =
 abbrev pub AllRecordsHold : {R : Type 0} → (R → List ℤ → Bool) → List R → List ℤ → Type 0
 AllRecordsHold holds records world = AllByRecursion (λ r. holds r world ≡ true) records
 
--- What a solver shows: a record knows its literal's code and is over variables that there are; of a literal and its opposite,
+-- What a decision procedure shows: a record knows its literal's code and is over variables that there are; of a literal and its opposite,
 -- exactly one holds; and the solution is one, wherever there is any.
-pub record SolverLaws {E R : Type 0} (checked : ℕ → E → Result (Unit {0}) Refusal) (coded : R → ℕ) (asked : E → ℕ → R) (Fits : ℕ → R → Type 0)
+pub record ProcedureLaws {E R : Type 0} (checked : ℕ → E → Result (Unit {0}) Refusal) (coded : R → ℕ) (asked : E → ℕ → R) (Fits : ℕ → R → Type 0)
     (holds : R → List ℤ → Bool) (solved : List R → ℕ → Bool) (solution : List R → ℕ → List ℤ) : Type 0 where
   pub asked_code : (e : E) (code : ℕ) → coded (asked e code) ≡ code
   pub asked_fits : (variables : ℕ) (e : E) (code : ℕ) → fits_by checked variables e ≡ true → Fits variables (asked e code)

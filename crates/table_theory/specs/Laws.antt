@@ -1,4 +1,4 @@
--- The interface's laws of a theory over a table, from what its solver shows. These are proofs; nothing in them has to be
+-- The interface's laws of a theory over a table, from what its decision procedure shows. These are proofs; nothing in them has to be
 -- believed.
 use Rattle.std.specs.Prelude.{◌≡◌, ℕ, ◌+◌, ◌*◌, Bool, true, not, ◌&&◌, List, map, length, ℤ, Result, nat_le, slice_index_or}
 use Rattle.std.proofs.Common.{sym, ap, ◌∙◌, arith}
@@ -7,10 +7,10 @@ use Rattle.refusals.specs.declared.Refusal.{Refusal}
 use Rattle.tables.specs.Entries.{most, all_entries_fit, all_fit}
 use Rattle.theory.specs.Meaning.{Lawful, WorldOf, atom_of}
 use Rattle.theory.proofs.Drawn.{all_codes}
-use Rattle.table_theory.specs.Drawing.{fits_by, record_of, records_of, table_meaning, SolverLaws}
+use Rattle.table_theory.specs.Drawing.{fits_by, record_of, records_of, table_meaning, ProcedureLaws}
 
 module _ {E R : Type 0} {checked : ℕ → E → Result (Unit {0}) Refusal} {coded : R → ℕ} {asked : E → ℕ → R} {Fits : ℕ → R → Type 0} {holds : R → List ℤ → Bool}
-    {solved : List R → ℕ → Bool} {solution : List R → ℕ → List ℤ} (laws : SolverLaws checked coded asked Fits holds solved solution) (spare : E) (variables : ℕ)
+    {solved : List R → ℕ → Bool} {solution : List R → ℕ → List ℤ} (laws : ProcedureLaws checked coded asked Fits holds solved solution) (spare : E) (variables : ℕ)
     (table : List E) where
   one_of_two : (a : ℕ) (world : List ℤ) → holds (record_of asked spare table (2 * a + 1)) world ≡ not (holds (record_of asked spare table (2 * a)) world)
   one_of_two a world =

@@ -1,5 +1,5 @@
-// Theories whose atoms are the entries of a table. A solver says what a literal of an entry asks for, and solves what the set
-// literals ask for.
+// Theories whose atoms are the entries of a table. A decision procedure says what a literal of an entry asks for, and whether
+// there is a world as the set literals ask.
 #![tactic(auto)]
 
 ghost use Rattle.std.specs.Prelude.{◌≡◌, ℕ, ◌≤◌, true, Bool, List, [], ◌∷◌, map, length, ℤ, vec_len, vec_capacity};
@@ -8,7 +8,7 @@ ghost use Rattle.tables.specs.Entries.{all_entries_fit};
 ghost use Rattle.theory.specs.Calls.{world_answer, world_written};
 ghost use Rattle.theory.specs.Meaning.{different};
 ghost use Rattle.theory.proofs.Apart.{different_at};
-ghost use Rattle.table_theory.specs.Drawing.{fits_by, records_of, table_meaning, shown_table, shown_variables, SolverLaws};
+ghost use Rattle.table_theory.specs.Drawing.{fits_by, records_of, table_meaning, shown_table, shown_variables, ProcedureLaws};
 ghost use Rattle.table_theory.specs.Laws;
 
 use refusals::Refusal;
@@ -16,10 +16,11 @@ use tables::{Entry, table_fits};
 use theory::stack::{Record, Stack};
 use theory::{MOST, Sizes, Theory};
 
-// What the literals of a table's entries ask for, and how that is solved.
+// A decision procedure over the entries of a table.
 //
-// A record is what one literal asks for. It holds of a world, a number for each variable, or does not.
-pub trait Solver {
+// A literal of an entry asks for a record. A record holds of a world, a number for each variable, or does not. The procedure
+// decides whether records hold together of any world, and gives one.
+pub trait Procedure {
     type Entry: Entry + Copy;
 
     type Record: Record;
@@ -54,7 +55,7 @@ pub trait Solver {
         ensures solved { result ≡ solved records.now (length numbers.old) }
         ensures written { result ≡ true → numbers.new ≡ solution records.now (length numbers.old) };
 
-    ghost laws: { SolverLaws Self.Entry.checked Self.Record.coded asked Fits holds solved solution };
+    ghost laws: { ProcedureLaws Self.Entry.checked Self.Record.coded asked Fits holds solved solution };
 
     ghost best: { (variables : ℕ) (table : List Self.Entry) (records : List Self.Record) → records ≡ records_of asked spare table (map Self.Record.coded records)
         → AllByRecursion (Fits variables) records → solved records variables ≡ true → Best variables table records (solution records variables) };
@@ -62,7 +63,7 @@ pub trait Solver {
 
 // A table over so many variables, of whose entries a literal sets one or its opposite. What is set always has a solution.
 #[derive(Drop)]
-pub struct TableTheory<S: Solver> {
+pub struct TableTheory<S: Procedure> {
     variables: usize,
     table: Vec<S::Entry>,
     stack: Stack<S::Record>,
@@ -74,7 +75,7 @@ pub struct TableTheory<S: Solver> {
 }
 
 // Whether records over so many variables have a solution.
-fn have_solution<S: Solver>(records: &[S::Record], variables: usize) -> bool
+fn have_solution<S: Procedure>(records: &[S::Record], variables: usize) -> bool
     requires fits { AllByRecursion (S.Fits variables) records.now }
     requires few { (length records.now ≤ 513) × (variables ≤ 512) }
     ensures { result ≡ S.solved records.now variables }
@@ -83,7 +84,7 @@ fn have_solution<S: Solver>(records: &[S::Record], variables: usize) -> bool
     S::solve(records, &mut numbers[..variables])
 }
 
-impl<S: Solver> TableTheory<S> {
+impl<S: Procedure> TableTheory<S> {
     // A theory over the table, with an empty stack over the places handed in. A table that is refused, or that has more
     // entries than there are places, shows as no atoms and no variables.
     pub fn new(variables: usize, mut table: Vec<S::Entry>, places: Vec<S::Record>) -> Self
@@ -121,7 +122,7 @@ impl<S: Solver> TableTheory<S> {
     }
 }
 
-impl<S: Solver> Theory for TableTheory<S> {
+impl<S: Procedure> Theory for TableTheory<S> {
     ghost meaning = { λ t. table_meaning S.asked S.holds S.spare t.variables t.table.items };
 
     ghost stack = { λ t. map S.Record.coded t.stack.records.items };

@@ -6,7 +6,7 @@ use equality::Equality;
 use refusals::Refusal;
 use std::alloc::{AllocError, Global};
 use switches::Switches;
-use table_theory::{Solver, TableTheory};
+use table_theory::{Procedure, TableTheory};
 use tables::{DifferenceEntry, EqualityEntry};
 use theory::{Sizes, Theory};
 
@@ -127,7 +127,7 @@ pub fn run<T: Theory>(heap: Global, theory: &mut T, steps: &[Step]) -> Result<()
 }
 
 // A theory over the entries of the rows, with so many places for its stack.
-fn over<S: Solver, X: Copy, F: Fn(X) -> S::Entry>(
+fn over<S: Procedure, X: Copy, F: Fn(X) -> S::Entry>(
     heap: Global,
     variables: usize,
     rows: &[X],

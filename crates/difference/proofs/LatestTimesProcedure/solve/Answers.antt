@@ -5,7 +5,7 @@ use Rattle.relaxing.specs.Limits.{Latest, NoTimes, moves, pass, latest}
 use Rattle.relaxing.proofs.Finding.{latest_when_still, length_latest}
 use Rattle.relaxing.proofs.Passes.{met_still}
 use Rattle.difference.specs.Differences.{have_times}
-use Rattle.difference.proofs.LatestTimesSolver.solve.Goals as goal
+use Rattle.difference.proofs.LatestTimesProcedure.solve.Goals as goal
 
 told : (r : Bool) (limits : List Limit) (times : List ℤ) (n : ℕ) → MatchBool r (Latest limits times) (NoTimes limits n)
     → MatchBool r (times ≡ latest limits n) (times ≡ pass limits (latest limits n)) → r ≡ have_times limits n
