@@ -4,6 +4,7 @@ ghost use Rattle.theory.specs.Calls.{set_ground, ground_answer, retreat_answer, 
 ghost use Rattle.theory.specs.Meaning.{has, names};
 
 use refusals::Refusal;
+use std::marker::Model;
 
 // What a theory keeps of a set literal. It knows the literal's code.
 pub trait Record: Copy {
@@ -33,11 +34,20 @@ pub struct Stack<R> {
     records: Vec<R>,
 }
 
+// Contracts see the records, and how many there are places for.
+impl<R> Model for Stack<R> {
+    ghost use Rattle.std.specs.Prelude.{vec_capacity};
+    ghost use Rattle.theory.specs.Held.{Held};
+
+    ghost Value = { Held R };
+
+    ghost view = { λ s. record { records = s.records.items; places = vec_capacity s.records } };
+}
+
 impl<R: Record> Stack<R> {
     // An empty stack over the places handed in.
     pub fn new(places: Vec<R>) -> Self
-        ensures items { result.records.items ≡ [] }
-        ensures places { vec_capacity result.records ≡ vec_capacity places }
+        ensures { result ≡ record { records = []; places = vec_capacity places } }
     {
         let mut records = places;
         records.clear();
@@ -46,20 +56,20 @@ impl<R: Record> Stack<R> {
 
     // How many records there are places for.
     pub fn places(&self) -> usize
-        ensures { result ≡ vec_capacity self.now.records }
+        ensures { result ≡ self.now.places }
     {
         self.records.capacity()
     }
 
     pub fn records(&self) -> &[R]
-        ensures { result.now ≡ self.now.records.items }
+        ensures { result.now ≡ self.now.records }
     {
         self.records.as_slice()
     }
 
     // Whether a record is of the atom.
     pub fn names_atom(&self, atom: usize) -> bool
-        ensures { result ≡ names (map R.Record.coded self.now.records.items) atom }
+        ensures { result ≡ names (map R.Record.coded self.now.records) atom }
     {
         self.records
             .iter()
@@ -68,7 +78,7 @@ impl<R: Record> Stack<R> {
 
     // Whether the literal with the code is set.
     pub fn has_code(&self, code: usize) -> bool
-        ensures { result ≡ has (map R.Record.coded self.now.records.items) code }
+        ensures { result ≡ has (map R.Record.coded self.now.records) code }
     {
         self.records
             .iter()
@@ -77,7 +87,7 @@ impl<R: Record> Stack<R> {
 
     // Why a literal is not even looked at, of `atoms` atoms and with so many places for a conflict.
     pub fn check(&self, atoms: usize, code: u16, places: usize) -> Result<(), Refusal>
-        ensures { result ≡ ground_answer (set_ground atoms (map R.Record.coded self.now.records.items) code places) }
+        ensures { result ≡ ground_answer (set_ground atoms (map R.Record.coded self.now.records) code places) }
     {
         let atom = code as usize / 2;
         if atom >= atoms {
@@ -93,18 +103,16 @@ impl<R: Record> Stack<R> {
     }
 
     pub fn push(&mut self, newest: R)
-        requires { vec_len self.old.records < vec_capacity self.old.records }
-        ensures items { self.new.records.items ≡ self.old.records.items ++ (newest ∷ []) }
-        ensures places { vec_capacity self.new.records ≡ vec_capacity self.old.records }
+        requires { length self.old.records < self.old.places }
+        ensures { self.new ≡ record { records = self.old.records ++ (newest ∷ []); places = self.old.places } }
     {
         self.records.push_reserved(newest);
     }
 
     // Drops the newest records, so many.
     pub fn retreat(&mut self, count: usize) -> Result<(), Refusal>
-        ensures answer { result ≡ retreat_answer self.old.records.items count }
-        ensures dropped { self.new.records.items ≡ retreated self.old.records.items count }
-        ensures places { vec_capacity self.new.records ≡ vec_capacity self.old.records }
+        ensures answer { result ≡ retreat_answer self.old.records count }
+        ensures dropped { self.new ≡ record { records = retreated self.old.records count; places = self.old.places } }
     {
         if count > self.records.len() {
             return Err(Refusal::MoreThanSet);
@@ -115,9 +123,9 @@ impl<R: Record> Stack<R> {
 
     // Writes a code and then the codes of all records to the front of a list, and answers how many that are.
     pub fn write_codes(&self, first: u16, list: &mut [u16]) -> usize
-        requires { vec_len self.now.records < length list.old }
-        ensures count { result ≡ length self.now.records.items + 1 }
-        ensures written { list.new ≡ (first ∷ map R.Record.coded self.now.records.items) ++ drop (length self.now.records.items + 1) list.old }
+        requires { length self.now.records < length list.old }
+        ensures count { result ≡ length self.now.records + 1 }
+        ensures written { list.new ≡ (first ∷ map R.Record.coded self.now.records) ++ drop (length self.now.records + 1) list.old }
     {
         list[0] = first;
         for (i, record) in self.records.iter().enumerate() {

@@ -7,5 +7,5 @@ use Rattle.theory.proofs.stack.Stack.has_code.Goals as goal
 pub returns : goal.returns
 returns g c =
     any_from_yields_List (λ x. g.R.Record.coded x == c.args.code) _ _ _ c.any.ensures.ran
-    (YieldsList-from_slice (vec_items c.args.self.now.records) cc) (λ x b q k. search (rules, tests))
-    ∙ any_has g.R.Record.coded c.args.code (vec_items c.args.self.now.records)
+    (YieldsList-from_slice (c.args.self.now.records) cc) (λ x b q k. search (rules, tests))
+    ∙ any_has g.R.Record.coded c.args.code (c.args.self.now.records)

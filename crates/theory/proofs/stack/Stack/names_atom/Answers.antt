@@ -7,5 +7,5 @@ use Rattle.theory.proofs.stack.Stack.names_atom.Goals as goal
 pub returns : goal.returns
 returns g c =
     any_from_yields_List (λ x. g.R.Record.coded x / 2 == c.args.atom) _ _ _ c.any.ensures.ran
-    (YieldsList-from_slice (vec_items c.args.self.now.records) cc) (λ x b q k. search (rules, tests))
-    ∙ any_names g.R.Record.coded c.args.atom (vec_items c.args.self.now.records)
+    (YieldsList-from_slice (c.args.self.now.records) cc) (λ x b q k. search (rules, tests))
+    ∙ any_names g.R.Record.coded c.args.atom (c.args.self.now.records)
