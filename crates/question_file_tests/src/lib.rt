@@ -18,27 +18,16 @@ mod tests {
 
     const SPARE_EQUALITY: EqualityEntry = EqualityEntry { a: 87, b: 88 };
 
-    // the value of a hexadecimal digit, in capitals
-    fn digit(byte: u8) -> Option<u8> {
-        match byte {
-            b'0'..=b'9' => Some(byte - b'0'),
-            b'A'..=b'F' => Some(byte - b'A' + 10),
-            _ => None,
-        }
-    }
-
     // the bytes of a text of hexadecimal digits, in which other characters are passed over
     fn bytes_of(heap: Global, text: &str) -> Result<Vec<u8>, AllocError> {
         let mut bytes = Vec::new(heap);
         let mut high = None;
-        for byte in text.bytes() {
-            if let Some(low) = digit(byte) {
-                match high {
-                    None => high = Some(low),
-                    Some(first) => {
-                        bytes.push((first & 15) << 4 | low)?;
-                        high = None;
-                    }
+        for digit in text.chars().filter_map(|c| c.to_digit(16)) {
+            match high {
+                None => high = Some(digit),
+                Some(first) => {
+                    bytes.push(((first & 15) << 4 | digit & 15) as u8)?;
+                    high = None;
                 }
             }
         }
