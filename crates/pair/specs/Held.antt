@@ -8,10 +8,10 @@ use Rattle.pair.specs.Pairs.{sizes_of, pair_fits, shown_pair, pair_world, pair_c
 module _ {L R : Type 0} {l : Ghosts L} {r : Ghosts R} where
   -- the codes of the set literals, oldest first
   abbrev pub codes_of : Pair L R l r → List ℕ
-  codes_of p = map (λ c. c.code) (vec_items p.stack.records)
+  codes_of p = map (λ c. c.code) p.stack.records
 
   abbrev pub places_of : Pair L R l r → ℕ
-  places_of p = vec_capacity p.stack.records
+  places_of p = p.stack.places
 
   abbrev pub meaning_of : Pair L R l r → Meaning
   meaning_of p = shown_pair (places_of p) (l.meaning p.left) (r.meaning p.right)

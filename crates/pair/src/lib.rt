@@ -19,7 +19,7 @@ pub struct Pair<L: Theory, R: Theory> {
     // what the pair shows
     sizes: Sizes,
     stack: Stack<Literal>,
-    ghost together: { Together (L.Theory.meaning left) (R.Theory.meaning right) (L.Theory.stack left) (R.Theory.stack right) (map (λ c. c.code) (vec_items stack.records)) (vec_capacity stack.records) cut sizes },
+    ghost together: { Together (L.Theory.meaning left) (R.Theory.meaning right) (L.Theory.stack left) (R.Theory.stack right) (map (λ c. c.code) stack.records) stack.places cut sizes },
 }
 
 // How many of the literals are the left's, which has so many atoms.

@@ -16,8 +16,8 @@ pub struct Switches {
     count: usize,
     stack: Stack<Literal>,
     ghost few: { count ≤ 512 },
-    ghost places: { count ≤ vec_capacity stack.records },
-    ghost apart: { different count (map (λ s. s.code) stack.records.items) ≡ true },
+    ghost places: { count ≤ stack.places },
+    ghost apart: { different count (map (λ s. s.code) stack.records) ≡ true },
 }
 
 impl Switches {
@@ -25,7 +25,7 @@ impl Switches {
     // show as none.
     pub fn new(count: usize, places: Vec<Literal>) -> Self
         ensures shown { result.count ≡ shown_switches count (vec_capacity places) }
-        ensures empty { result.stack.records.items ≡ [] }
+        ensures empty { result.stack.records ≡ [] }
     {
         let stack = Stack::new(places);
         let shown = if count <= MOST && count <= stack.places() {
@@ -43,9 +43,9 @@ impl Switches {
 impl Theory for Switches {
     ghost meaning = { λ t. switch_meaning t.count };
 
-    ghost stack = { λ t. map (λ s. s.code) t.stack.records.items };
+    ghost stack = { λ t. map (λ s. s.code) t.stack.records };
 
-    ghost given_world = { λ t. switch_world t.count (map (λ s. s.code) t.stack.records.items) };
+    ghost given_world = { λ t. switch_world t.count (map (λ s. s.code) t.stack.records) };
 
     // no literal clashes
     ghost given_conflict = { λ _ _. [] };
@@ -54,7 +54,7 @@ impl Theory for Switches {
 
     ghost apart = { λ t. t.apart };
 
-    ghost worldly = { λ t. world_of_stack t.count (map (λ s. s.code) t.stack.records.items) t.apart };
+    ghost worldly = { λ t. world_of_stack t.count (map (λ s. s.code) t.stack.records) t.apart };
 
     fn sizes(&self) -> Sizes {
         Sizes {

@@ -18,9 +18,9 @@ use Rattle.table_theory.proofs.Sound.{Kept, few_records, fit_grown, codes_grown,
 
 pub kept_of : {S E R : Type 0} {s : Ghosts S E R} {e : EntryGhosts E} {r : RecordGhosts R}
     (laws : ProcedureLaws e.checked r.coded s.asked s.Fits s.holds s.solved s.solution) (t : TableTheory S E R s e r)
-    → Kept laws s.spare t.variables (vec_items t.table) (vec_items t.stack.records)
+    → Kept laws s.spare t.variables (vec_items t.table) t.stack.records
 kept_of {r = r} laws t =
-    record { fits = t.fits; apart = different_at (map r.coded (vec_items t.stack.records)) t.apart t.table.ok.0; drawn = t.drawn; settled = t.settled }
+    record { fits = t.fits; apart = different_at (map r.coded t.stack.records) t.apart t.table.ok.0; drawn = t.drawn; settled = t.settled }
 
 -- the ghost fields of the value with another stack
 pub record Fields {S E R : Type 0} {s : Ghosts S E R} {e : EntryGhosts E} {r : RecordGhosts R} (t : TableTheory S E R s e r) (records : List R) (places : ℕ) : Type 0 where
@@ -32,7 +32,7 @@ pub record Fields {S E R : Type 0} {s : Ghosts S E R} {e : EntryGhosts E} {r : R
 
 pub fields_of : {S E R : Type 0} {s : Ghosts S E R} {e : EntryGhosts E} {r : RecordGhosts R}
     (laws : ProcedureLaws e.checked r.coded s.asked s.Fits s.holds s.solved s.solution) (t : TableTheory S E R s e r) (records : List R) (places : ℕ)
-    → places ≡ vec_capacity t.stack.records → Kept laws s.spare t.variables (vec_items t.table) records → Fields t records places
+    → places ≡ t.stack.places → Kept laws s.spare t.variables (vec_items t.table) records → Fields t records places
 fields_of {r = r} laws t records places same k =
     record {
       fits = k.fits;
@@ -44,18 +44,18 @@ fields_of {r = r} laws t records places same k =
 
 -- A literal that the check has passed: it is there and not set, and there is room for it and for its conflict.
 pub record Passed {S E R : Type 0} {s : Ghosts S E R} {e : EntryGhosts E} {r : RecordGhosts R} (t : TableTheory S E R s e r) (code places : ℕ) : Type 0 where
-  pub reason : set_ground (length (vec_items t.table)) (map r.coded (vec_items t.stack.records)) code places ≡ None
+  pub reason : set_ground (length (vec_items t.table)) (map r.coded t.stack.records) code places ≡ None
   pub there : atom_of code < length (vec_items t.table)
-  pub unset : names (map r.coded (vec_items t.stack.records)) (atom_of code) ≡ false
+  pub unset : names (map r.coded t.stack.records) (atom_of code) ≡ false
   pub list_places : length (vec_items t.table) ≤ places
-  pub room : length (vec_items t.stack.records) < length (vec_items t.table)
+  pub room : length t.stack.records < length (vec_items t.table)
 
 pub passed : {S E R : Type 0} {s : Ghosts S E R} {e : EntryGhosts E} {r : RecordGhosts R} (t : TableTheory S E R s e r) (n code places : ℕ)
-    → n ≡ vec_len t.table → ◌≡◌ {A = Result (Unit {0}) Refusal} (Ok tt) (ground_answer (set_ground n (map r.coded (vec_items t.stack.records)) code places))
+    → n ≡ vec_len t.table → ◌≡◌ {A = Result (Unit {0}) Refusal} (Ok tt) (ground_answer (set_ground n (map r.coded t.stack.records) code places))
     → Passed t code places
 passed {r = r} t n code places same h =
     let atoms = length (vec_items t.table) in
-    let codes = map r.coded (vec_items t.stack.records) in
+    let codes = map r.coded t.stack.records in
     let apart = different_at codes t.apart t.table.ok.0 in
     let ok = subst (λ m. ground_answer (set_ground m codes code places) ≡ Ok tt) (same ∙ t.table.ok.0) (sym h) in
     let a = set_accepted atoms codes code places ok in
@@ -64,7 +64,7 @@ passed {r = r} t n code places same h =
       there = a.1;
       unset = a.2;
       list_places = a.3;
-      room = omega (arith, set_room atoms codes code places apart ok, length-map (vec_items t.stack.records) r.coded);
+      room = omega (arith, set_room atoms codes code places apart ok, length-map t.stack.records r.coded);
     }
 
 module _ {S E R : Type 0} {s : Ghosts S E R} {e : EntryGhosts E} {r : RecordGhosts R}
@@ -76,35 +76,35 @@ module _ {S E R : Type 0} {s : Ghosts S E R} {e : EntryGhosts E} {r : RecordGhos
   record_read entry asked is made = made ∙ ap (λ x. s.asked x code) (get_or_read (vec_items t.table) (code / 2) entry p.there is s.spare)
 
   abbrev grown : List R
-  grown = vec_items t.stack.records ++ (record_of s.asked s.spare (vec_items t.table) code ∷ [])
+  grown = t.stack.records ++ (record_of s.asked s.spare (vec_items t.table) code ∷ [])
 
-  pub grown_fit : AllByRecursion (s.Fits t.variables) (vec_items t.stack.records ++ (record_of s.asked s.spare (vec_items t.table) code ∷ []))
+  pub grown_fit : AllByRecursion (s.Fits t.variables) (t.stack.records ++ (record_of s.asked s.spare (vec_items t.table) code ∷ []))
   grown_fit = fit_grown laws s.spare t.variables (vec_items t.table) (kept_of laws t) code p.there
 
-  pub grown_few : length (vec_items t.stack.records ++ (record_of s.asked s.spare (vec_items t.table) code ∷ [])) ≤ 513
+  pub grown_few : length (t.stack.records ++ (record_of s.asked s.spare (vec_items t.table) code ∷ [])) ≤ 513
   grown_few =
       omega (
         arith,
         few_records laws s.spare t.variables (vec_items t.table) (kept_of laws t),
-        length_push (vec_items t.stack.records) (record_of s.asked s.spare (vec_items t.table) code),
+        length_push t.stack.records (record_of s.asked s.spare (vec_items t.table) code),
       )
 
-  pub kept_grown : s.solved (vec_items t.stack.records ++ (record_of s.asked s.spare (vec_items t.table) code ∷ [])) t.variables ≡ true
-      → Kept laws s.spare t.variables (vec_items t.table) (vec_items t.stack.records ++ (record_of s.asked s.spare (vec_items t.table) code ∷ []))
+  pub kept_grown : s.solved (t.stack.records ++ (record_of s.asked s.spare (vec_items t.table) code ∷ [])) t.variables ≡ true
+      → Kept laws s.spare t.variables (vec_items t.table) (t.stack.records ++ (record_of s.asked s.spare (vec_items t.table) code ∷ []))
   kept_grown solved =
       let k = kept_of laws t in
       record {
         fits = t.fits;
         apart =
             ap (different (length (vec_items t.table))) (codes_grown laws s.spare t.variables (vec_items t.table) k code)
-            ∙ different_push (length (vec_items t.table)) (map r.coded (vec_items t.stack.records)) code k.apart p.unset p.there;
+            ∙ different_push (length (vec_items t.table)) (map r.coded t.stack.records) code k.apart p.unset p.there;
         drawn = drawn_grown laws s.spare t.variables (vec_items t.table) k code;
         settled = solved;
       }
 
   -- accepted
-  pub gained : (records : List R) → records ≡ vec_items t.stack.records ++ (record_of s.asked s.spare (vec_items t.table) code ∷ [])
-      → Gained (table_meaning s.asked s.holds s.spare t.variables (vec_items t.table)) (map r.coded (vec_items t.stack.records)) code list (map r.coded records) list
+  pub gained : (records : List R) → records ≡ t.stack.records ++ (record_of s.asked s.spare (vec_items t.table) code ∷ [])
+      → Gained (table_meaning s.asked s.holds s.spare t.variables (vec_items t.table)) (map r.coded t.stack.records) code list (map r.coded records) list
   gained records same =
       record {
         reason = p.reason;
@@ -113,11 +113,11 @@ module _ {S E R : Type 0} {s : Ghosts S E R} {e : EntryGhosts E} {r : RecordGhos
       }
 
   -- a clash
-  pub clashed : (records : List R) (count : ℕ) (list' : List ℕ) → records ≡ vec_items t.stack.records
-      → s.solved (vec_items t.stack.records ++ (record_of s.asked s.spare (vec_items t.table) code ∷ [])) t.variables ≡ false
+  pub clashed : (records : List R) (count : ℕ) (list' : List ℕ) → records ≡ t.stack.records
+      → s.solved (t.stack.records ++ (record_of s.asked s.spare (vec_items t.table) code ∷ [])) t.variables ≡ false
       → count ≡ length records + 1 → list' ≡ (code ∷ map r.coded records) ++ drop (length records + 1) list
-      → Clashed (table_meaning s.asked s.holds s.spare t.variables (vec_items t.table)) (map r.coded (vec_items t.stack.records))
-      (code ∷ map r.coded (vec_items t.stack.records)) code list count (map r.coded records) list'
+      → Clashed (table_meaning s.asked s.holds s.spare t.variables (vec_items t.table)) (map r.coded t.stack.records)
+      (code ∷ map r.coded t.stack.records) code list count (map r.coded records) list'
   clashed records count list' same unsolved counted written =
-      set_clashed r.coded (table_meaning s.asked s.holds s.spare t.variables (vec_items t.table)) (vec_items t.stack.records) records code list count list'
+      set_clashed r.coded (table_meaning s.asked s.holds s.spare t.variables (vec_items t.table)) t.stack.records records code list count list'
       (ap ground_answer p.reason) (no_world laws s.spare t.variables (vec_items t.table) (kept_of laws t) code p.there unsolved) same counted written

@@ -68,10 +68,10 @@ pub struct TableTheory<S: Procedure> {
     table: Vec<S::Entry>,
     stack: Stack<S::Record>,
     ghost fits: { all_entries_fit (fits_by S.Entry.checked) variables table.items ≡ true },
-    ghost places: { vec_len table ≤ vec_capacity stack.records },
-    ghost apart: { different (vec_len table) (map S.Record.coded stack.records.items) ≡ true },
-    ghost drawn: { stack.records.items ≡ records_of S.asked S.spare table.items (map S.Record.coded stack.records.items) },
-    ghost settled: { S.solved stack.records.items variables ≡ true },
+    ghost places: { vec_len table ≤ stack.places },
+    ghost apart: { different (vec_len table) (map S.Record.coded stack.records) ≡ true },
+    ghost drawn: { stack.records ≡ records_of S.asked S.spare table.items (map S.Record.coded stack.records) },
+    ghost settled: { S.solved stack.records variables ≡ true },
 }
 
 // Whether records over so many variables have a solution.
@@ -90,7 +90,7 @@ impl<S: Procedure> TableTheory<S> {
     pub fn new(variables: usize, mut table: Vec<S::Entry>, places: Vec<S::Record>) -> Self
         ensures table { result.table.items ≡ shown_table (fits_by S.Entry.checked) variables table.items (vec_capacity places) }
         ensures variables { result.variables ≡ shown_variables (fits_by S.Entry.checked) variables table.items (vec_capacity places) }
-        ensures empty { result.stack.records.items ≡ [] }
+        ensures empty { result.stack.records ≡ [] }
     {
         let stack = Stack::new(places);
         if table_fits(variables, table.as_slice()) && table.len() <= stack.places() {
@@ -111,8 +111,8 @@ impl<S: Procedure> TableTheory<S> {
     // Writes the solution of what the set literals ask for to the front of a list.
     pub fn solution(&self, list: &mut [i64]) -> Result<(), Refusal>
         ensures answer { result ≡ world_answer self.now.variables list.old }
-        ensures written { list.new ≡ world_written self.now.variables (S.solution self.now.stack.records.items self.now.variables) list.old }
-        ensures best { S.Best self.now.variables self.now.table.items self.now.stack.records.items (S.solution self.now.stack.records.items self.now.variables) }
+        ensures written { list.new ≡ world_written self.now.variables (S.solution self.now.stack.records self.now.variables) list.old }
+        ensures best { S.Best self.now.variables self.now.table.items self.now.stack.records (S.solution self.now.stack.records self.now.variables) }
     {
         if list.len() < self.variables {
             return Err(Refusal::WorldListShort);
@@ -125,18 +125,18 @@ impl<S: Procedure> TableTheory<S> {
 impl<S: Procedure> Theory for TableTheory<S> {
     ghost meaning = { λ t. table_meaning S.asked S.holds S.spare t.variables t.table.items };
 
-    ghost stack = { λ t. map S.Record.coded t.stack.records.items };
+    ghost stack = { λ t. map S.Record.coded t.stack.records };
 
-    ghost given_world = { λ t. S.solution t.stack.records.items t.variables };
+    ghost given_world = { λ t. S.solution t.stack.records t.variables };
 
     // the new literal and all set literals
-    ghost given_conflict = { λ t code. code ∷ map S.Record.coded t.stack.records.items };
+    ghost given_conflict = { λ t code. code ∷ map S.Record.coded t.stack.records };
 
     ghost lawful = { λ t. Laws.lawful S.laws S.spare t.variables t.table.items t.fits };
 
-    ghost apart = { λ t. different_at (map S.Record.coded t.stack.records.items) t.apart t.table.ok.0 };
+    ghost apart = { λ t. different_at (map S.Record.coded t.stack.records) t.apart t.table.ok.0 };
 
-    ghost worldly = { λ t. Laws.worldly S.laws S.spare t.variables t.table.items t.stack.records.items t.drawn t.settled };
+    ghost worldly = { λ t. Laws.worldly S.laws S.spare t.variables t.table.items t.stack.records t.drawn t.settled };
 
     fn sizes(&self) -> Sizes {
         Sizes {

@@ -11,7 +11,7 @@ use Rattle.pair.proofs.PairTheory.retreat.Goals.{After-count_left-lefts, In_err-
 drops : (g : Over) (c : After-count_left-lefts g) → Newest (g.L.Theory.meaning c.args.self.now.left).atoms (codes_of c.args.self.now) c.args.count c.count_left-lefts.result
 drops g c =
     let p = c.args.self.now in
-    newest _ (vec_items p.stack.records) c.args.count (rw (← c.records-came.ensures) c.if-count-came.false)
+    newest _ p.stack.records c.args.count (rw (← c.records-came.ensures) c.if-count-came.false)
     (rw (← ap (λ (s : Sizes). s.atoms) p.together.cut_is, ← c.records-came.ensures) c.count_left-lefts.ensures)
 
 pub returns-in_err-retreat : goal.returns-in_err-retreat
@@ -37,9 +37,9 @@ invariant_of-self-2 g c =
     let p = c.args.self.now in
     record {
       together =
-          dropped_together p.together (drops g (goal.at.invariant_of-self-2 g c).After-count_left-lefts) c.retreat.ensures.same c.retreat-2.ensures.same c.retreat-3.ensures.places
-          c.retreat.ensures.dropped c.retreat-2.ensures.dropped (retreated_map (λ c. c.code) (vec_items p.stack.records) c.args.count c.retreat-3.ensures.dropped);
+          dropped_together p.together (drops g (goal.at.invariant_of-self-2 g c).After-count_left-lefts) c.retreat.ensures.same c.retreat-2.ensures.same (ap (λ s. s.places) c.retreat-3.ensures.dropped)
+          c.retreat.ensures.dropped c.retreat-2.ensures.dropped (retreated_map (λ c. c.code) p.stack.records c.args.count (ap (λ s. s.records) c.retreat-3.ensures.dropped));
     }
 
 pub returns-clause-dropped : goal.returns-clause-dropped
-returns-clause-dropped g c = retreated_map (λ c. c.code) (vec_items c.args.self.now.stack.records) c.args.count c.retreat-3.ensures.dropped
+returns-clause-dropped g c = retreated_map (λ c. c.code) c.args.self.now.stack.records c.args.count (ap (λ s. s.records) c.retreat-3.ensures.dropped)

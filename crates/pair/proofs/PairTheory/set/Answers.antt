@@ -43,15 +43,15 @@ pub push-requires : goal.push-requires
 push-requires g c =
     let p = c.args.self.now in
     let room = together_room (grown g (goal.at.push-requires g c).Joined-code-cut).together in
-    omega (arith, room, length_push (codes_of p) c.args.code, length-map (vec_items p.stack.records) (λ c. c.code), p.stack.records.ok.0)
+    omega (arith, room, length_push (codes_of p) c.args.code, length-map p.stack.records (λ c. c.code))
 
 -- the literal is set behind the others
-pushed : (g : Over) (c : After-push g) → map (λ c. c.code) (vec_items c.push.new.self.records) ≡ codes_of c.args.self.now ++ (c.args.code ∷ [])
-pushed g c = ap (map (λ c. c.code)) c.push.ensures.items ∙ map_push (λ c. c.code) (vec_items c.args.self.now.stack.records) (record { code = c.args.code })
+pushed : (g : Over) (c : After-push g) → map (λ c. c.code) c.push.new.self.records ≡ codes_of c.args.self.now ++ (c.args.code ∷ [])
+pushed g c = ap (λ s. map (λ c. c.code) s.records) c.push.ensures ∙ map_push (λ c. c.code) c.args.self.now.stack.records (record { code = c.args.code })
 
 pub invariant_of-self-2 : goal.invariant_of-self-2
 invariant_of-self-2 g c =
-    record { together = rw (pushed g c, c.push.ensures.places) (grown g (goal.at.invariant_of-self-2 g c).Joined-code-cut).together }
+    record { together = rw (pushed g c, ap (λ s. s.places) c.push.ensures) (grown g (goal.at.invariant_of-self-2 g c).Joined-code-cut).together }
 
 pub returns-clause-by : goal.returns-clause-by
 returns-clause-by g c = rw (pushed g (goal.at.returns-clause-by g c).After-push) (grown g (goal.at.returns-clause-by g c).Joined-code-cut).gained

@@ -16,7 +16,7 @@ more codes before list i is_set e is l inv =
 
 pub loop-switch-preserved : goal.loop-switch-preserved
 loop-switch-preserved c =
-    let codes = map (λ s. s.code) (vec_items c.args.self.now.stack.records) in
+    let codes = map (λ s. s.code) c.args.self.now.stack.records in
     elim c.if-has_code.branch [
       | then-has_code w ↦ more codes _ c.loop-switch.number-items c.loop-switch.switch true w.if-has_code.ensures w.number-is c.loop-switch-test.true c.loop-switch.invariant
       | else-has_code w ↦ more codes _ c.loop-switch.number-items c.loop-switch.switch false w.if-has_code.ensures w.number-is c.loop-switch-test.true c.loop-switch.invariant
@@ -26,7 +26,7 @@ pub returns-clause-written : goal.returns-clause-written
 returns-clause-written c =
     let count = c.args.self.now.count in
     let list = c.args.list.now in
-    let front = switch_of (map (λ s. s.code) (vec_items c.args.self.now.stack.records)) in
+    let front = switch_of (map (λ s. s.code) c.args.self.now.stack.records) in
     let all : c.loop-switch.switch ≡ count = omega (arith, length-take-le count list c.if-list-self.false) in
     cond_above (length list) count _ _ _ c.if-list-self.false
     (ap (λ xs. xs ++ drop count list)

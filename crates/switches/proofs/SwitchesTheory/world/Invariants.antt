@@ -5,4 +5,4 @@ use Rattle.switches.proofs.SwitchesTheory.world.Given as goal
 
 abbrev pub invariant-loop-switch : goal.invariant-loop-switch
 invariant-loop-switch l =
-    l.number-items ≡ fronted (switch_of (map (λ s. s.code) (vec_items l.self.stack.records))) l.initial.number-items l.switch
+    l.number-items ≡ fronted (switch_of (map (λ s. s.code) l.self.stack.records)) l.initial.number-items l.switch

@@ -9,11 +9,11 @@ use Rattle.table_theory.proofs.TableTheory.solution.Goals as goal
 use Rattle.table_theory.proofs.TableTheory.solution.Goals.{Start}
 
 best : (g : Over) (c : Start g)
-    → g.S.Procedure.Best c.args.self.now.variables (vec_items c.args.self.now.table) (vec_items c.args.self.now.stack.records)
-    (g.S.Procedure.solution (vec_items c.args.self.now.stack.records) c.args.self.now.variables)
+    → g.S.Procedure.Best c.args.self.now.variables (vec_items c.args.self.now.table) c.args.self.now.stack.records
+    (g.S.Procedure.solution c.args.self.now.stack.records c.args.self.now.variables)
 best g c =
     let t = c.args.self.now in
-    g.met.S.Procedure.best t.variables (vec_items t.table) (vec_items t.stack.records) t.drawn
+    g.met.S.Procedure.best t.variables (vec_items t.table) t.stack.records t.drawn
     (records_fit g.met.S.Procedure.laws g.S.Procedure.spare t.variables (vec_items t.table) (kept_of g.met.S.Procedure.laws t)) t.settled
 
 pub returns-then-list-self-clause-best : goal.returns-then-list-self-clause-best

@@ -17,25 +17,25 @@ passed g c = values.passed c.args.self.now c.len.result c.args.code (length c.ar
 
 -- the stack with the new record
 pushed : (g : Over) (c : After-push g)
-    → vec_items c.push.new.self.records ≡ vec_items c.args.self.now.stack.records ++ (record_of g.S.Procedure.asked g.S.Procedure.spare (vec_items c.args.self.now.table) c.args.code ∷ [])
+    → c.push.new.self.records ≡ c.args.self.now.stack.records ++ (record_of g.S.Procedure.asked g.S.Procedure.spare (vec_items c.args.self.now.table) c.args.code ∷ [])
 pushed g c =
     let t = c.args.self.now in
-    c.push.ensures.items
-    ∙ ap (λ x. vec_items t.stack.records ++ (x ∷ []))
+    ap (λ s. s.records) c.push.ensures
+    ∙ ap (λ x. t.stack.records ++ (x ∷ []))
     (record_read g.met.S.Procedure.laws t c.args.code c.args.conflict.now (passed g (goal.at.After-push g c).In_ok-check) c.index.result.now c.ask-record.result
     c.index.ensures c.ask-record.ensures)
 
 -- the retreat drops it again
-back : (g : Over) (c : After-retreat g) → vec_items c.retreat.new.self.records ≡ vec_items c.args.self.now.stack.records
+back : (g : Over) (c : After-retreat g) → c.retreat.new.self.records ≡ c.args.self.now.stack.records
 back g c =
-    c.retreat.ensures.dropped
-    ∙ ap (λ xs. retreated xs 1) c.push.ensures.items
-    ∙ retreated_push (vec_items c.args.self.now.stack.records) c.ask-record.result
+    ap (λ s. s.records) c.retreat.ensures.dropped
+    ∙ ap (λ xs. retreated xs 1) (ap (λ s. s.records) c.push.ensures)
+    ∙ retreated_push c.args.self.now.stack.records c.ask-record.result
 
 pub push-requires : goal.push-requires
 push-requires g c =
     let t = c.args.self.now in
-    omega (arith, (passed g (goal.at.push-requires g c).In_ok-check).room, t.places, t.table.ok.0, t.stack.records.ok.0)
+    omega (arith, (passed g (goal.at.push-requires g c).In_ok-check).room, t.places, t.table.ok.0)
 
 pub have_solution-requires : goal.have_solution-requires
 have_solution-requires g c =
@@ -58,7 +58,7 @@ invariant_of-self-then-have_solution g c =
     let p = passed g (goal.at.invariant_of-self-then-have_solution g c).In_ok-check in
     let same = pushed g (goal.at.invariant_of-self-then-have_solution g c).After-push in
     let f =
-    fields_of laws t (vec_items c.push.new.self.records) (vec_capacity c.push.new.self.records) c.push.ensures.places
+    fields_of laws t c.push.new.self.records c.push.new.self.places (ap (λ s. s.places) c.push.ensures)
     (subst (Kept laws g.S.Procedure.spare t.variables (vec_items t.table)) (sym same)
     (kept_grown laws t c.args.code c.args.conflict.now p
     (subst (λ xs. g.S.Procedure.solved xs t.variables ≡ true) (c.records.ensures ∙ same) (sym c.if-have_solution.ensures)))) in
@@ -70,7 +70,7 @@ returns-then-have_solution g c =
       same = refl;
       by =
           gained g.met.S.Procedure.laws c.args.self.now c.args.code c.args.conflict.now (passed g (goal.at.returns-then-have_solution g c).In_ok-check)
-          (vec_items c.push.new.self.records) (pushed g (goal.at.returns-then-have_solution g c).After-push);
+          c.push.new.self.records (pushed g (goal.at.returns-then-have_solution g c).After-push);
     }
 
 pub invariant_of-self-2 : goal.invariant_of-self-2
@@ -78,7 +78,7 @@ invariant_of-self-2 g c =
     let t = c.args.self.now in
     let laws = g.met.S.Procedure.laws in
     let f =
-    fields_of laws t (vec_items c.retreat.new.self.records) (vec_capacity c.retreat.new.self.records) (c.retreat.ensures.places ∙ c.push.ensures.places)
+    fields_of laws t c.retreat.new.self.records c.retreat.new.self.places (ap (λ s. s.places) c.retreat.ensures.dropped ∙ ap (λ s. s.places) c.push.ensures)
     (subst (Kept laws g.S.Procedure.spare t.variables (vec_items t.table)) (sym (back g (goal.at.invariant_of-self-2 g c).After-retreat)) (kept_of laws t)) in
     record { fits = f.fits; places = f.places_left; apart = f.apart; drawn = f.drawn; settled = f.settled }
 
@@ -86,7 +86,7 @@ pub write_codes-requires : goal.write_codes-requires
 write_codes-requires g c =
     let p = passed g (goal.at.write_codes-requires g c).In_ok-check in
     let same = back g (goal.at.write_codes-requires g c).After-retreat in
-    omega (arith, p.room, p.list_places, ap length same, c.retreat.new.self.records.ok.0)
+    omega (arith, p.room, p.list_places, ap length same)
 
 pub returns : goal.returns
 returns g c =
@@ -95,7 +95,7 @@ returns g c =
     record {
       same = refl;
       by =
-          clashed g.met.S.Procedure.laws t c.args.code c.args.conflict.now (passed g (goal.at.returns g c).In_ok-check) (vec_items c.retreat.new.self.records)
+          clashed g.met.S.Procedure.laws t c.args.code c.args.conflict.now (passed g (goal.at.returns g c).In_ok-check) c.retreat.new.self.records
           c.write_codes.result c.write_codes.new.list (back g (goal.at.returns g c).After-retreat)
           (subst (λ xs. g.S.Procedure.solved xs t.variables ≡ false) same (sym c.if-have_solution.ensures))
           c.write_codes.ensures.count c.write_codes.ensures.written;
