@@ -1,6 +1,3 @@
 mod Sets
-mod Turning
-mod Links
 mod Rules
-mod Replaying
-mod Staged
+mod Turning
