@@ -1,154 +1,113 @@
 -- Flags for the codes of set literals, as literals are put on and taken off.
-use Rattle.std.proofs.Common.{◌≡◌, ℕ, ◌+◌, ◌*◌, ◌/◌, ◌<◌, ◌≤◌, Bool, true, false, not, ◌&&◌, ◌||◌, eqb, ltb, List, [], ◌∷◌, ◌++◌, reverse, length, get_or, set, replicate, vec_items, vec_len, sym, refl, ap, ◌∙◌, ⊎_elim, arith, length-set}
+use Rattle.std.proofs.Common.{◌≡◌, ℕ, ◌+◌, ◌*◌, ◌<◌, ◌≤◌, Bool, true, false, ◌||◌, List, [], ◌∷◌, ◌++◌, reverse, length, get_or, set, replicate, refl, ap, ◌∙◌, arith, length-set}
 use Rattle.std.proofs.lemmas.List.FromFn.{get_or-map-range_with_len, length-map-range_with_len, fill_by_all}
-use Rattle.std.proofs.lemmas.List.{get_or-set_same, get_or-set_other, get_or_read_under, get_or-replicate, length-replicate, reverse-append, length-map, length-reverse}
-use Rattle.std.proofs.lemmas.Bool.{and_parts, and_right, or_left, both_ways, cases_eq, cases_Bool, eq-eqb, ne_eqb, ltb-true, lt-ltb, not-true, not_from_true, not_from_false}
-use Rattle.steps.specs.Clauses.{opposite}
+use Rattle.std.proofs.lemmas.List.{get_or_read_under, length-replicate, reverse-append, length-map}
+use Rattle.std.proofs.lemmas.Bool.Decides.{nat_tests}
+use Rattle.std.proofs.lemmas.Grind.{common_steps}
 use Rattle.steps.specs.Steps.{Trail, codes_of}
 use Rattle.steps.specs.declared.Entry.{Entry}
-use Rattle.steps.proofs.Judged.{has_names, names_has}
-use Rattle.steps.proofs.Opposites.{atom_opposite, opposite_plain}
+use Rattle.steps.proofs.Judged.{has_names}
 use Rattle.steps.proofs.Sound.{different_add, different_tail}
 use Rattle.theory.specs.Meaning.{atom_of, has, names, different}
 use Rattle.theory.proofs.Apart.{different_few}
-use Rattle.clauses.specs.Standing.{flags_of, can_set}
-use Rattle.clauses.specs.declared.assignment.Assignment.{Assignment}
+use Rattle.clauses.specs.Standing.{Kept, flags_of, can_set}
 
-pub flag_at : (atoms : ℕ) (codes : List ℕ) (c : ℕ) → c < 2 * atoms → get_or (flags_of atoms codes) c false ≡ has codes c
+flag_at : (atoms : ℕ) (codes : List ℕ) (c : ℕ) → c < 2 * atoms → get_or (flags_of atoms codes) c false ≡ has codes c
 flag_at atoms codes c h = get_or-map-range_with_len (has codes) 0 (2 * atoms) c c false h (omega arith)
 
-pub length_flags : (atoms : ℕ) (codes : List ℕ) → length (flags_of atoms codes) ≡ 2 * atoms
+length_flags : (atoms : ℕ) (codes : List ℕ) → length (flags_of atoms codes) ≡ 2 * atoms
 length_flags atoms codes = length-map-range_with_len (has codes) 0 (2 * atoms)
 
 -- no set literal is of an atom that is not there
-pub has_beyond : (atoms : ℕ) (codes : List ℕ) (c : ℕ) → different atoms codes ≡ true → 2 * atoms ≤ c → has codes c ≡ false
+has_beyond : (atoms : ℕ) (codes : List ℕ) (c : ℕ) → different atoms codes ≡ true → 2 * atoms ≤ c → has codes c ≡ false
 has_beyond atoms [] c d h = refl
 has_beyond atoms (x ∷ codes) c d h =
     let p = different_tail atoms x codes d in
     let i = has_beyond atoms codes c p.1 h in
-    let other : eqb x c ≡ false = ne_eqb x c (λ e. omega (arith, e, h, p.0.0)) in
-    ap (λ b. b || has codes c) other ∙ i
+    grind (arith, nat_tests, p)
 
-pub flags_push : (atoms : ℕ) (codes : List ℕ) (c : ℕ) → c < 2 * atoms → set (flags_of atoms codes) c true ≡ flags_of atoms (c ∷ codes)
+flags_push : (atoms : ℕ) (codes : List ℕ) (c : ℕ) → c < 2 * atoms → set (flags_of atoms codes) c true ≡ flags_of atoms (c ∷ codes)
 flags_push atoms codes c h =
     fill_by_all (has (c ∷ codes)) (set (flags_of atoms codes) c true) (2 * atoms) false (length-set (flags_of atoms codes) c true ∙ length_flags atoms codes)
-    (λ k l. ⊎_elim
-    (λ e. ap (λ j. get_or (set (flags_of atoms codes) c true) j false) (sym e) ∙ get_or-set_same (flags_of atoms codes) c true false (omega (arith, length_flags atoms codes, h)) ∙ sym (or_left (eqb c k) (has codes k) (eq-eqb c k e)))
-    (λ n. get_or-set_other (flags_of atoms codes) c k true false (λ e. n (sym e)) ∙ flag_at atoms codes k l ∙ sym (ap (λ b. b || has codes k) (ne_eqb c k n)))
-    (cases_eq c k))
+    (λ k l. grind (arith, common_steps, nat_tests, flag_at atoms codes k, length_flags atoms codes))
 
-pub flags_pop : (atoms : ℕ) (codes : List ℕ) (c : ℕ) → c < 2 * atoms → has codes c ≡ false → set (flags_of atoms (c ∷ codes)) c false ≡ flags_of atoms codes
+flags_pop : (atoms : ℕ) (codes : List ℕ) (c : ℕ) → c < 2 * atoms → has codes c ≡ false → set (flags_of atoms (c ∷ codes)) c false ≡ flags_of atoms codes
 flags_pop atoms codes c h gone =
-    fill_by_all (has codes) (set (flags_of atoms (c ∷ codes)) c false) (2 * atoms) false (length-set (flags_of atoms (c ∷ codes)) c false ∙ length_flags atoms (c ∷ codes))
-    (λ k l. ⊎_elim
-    (λ e. ap (λ j. get_or (set (flags_of atoms (c ∷ codes)) c false) j false) (sym e) ∙ get_or-set_same (flags_of atoms (c ∷ codes)) c false false (omega (arith, length_flags atoms (c ∷ codes), h)) ∙ sym (ap (has codes) (sym e) ∙ gone))
-    (λ n. get_or-set_other (flags_of atoms (c ∷ codes)) c k false false (λ e. n (sym e)) ∙ flag_at atoms (c ∷ codes) k l ∙ ap (λ b. b || has codes k) (ne_eqb c k n))
-    (cases_eq c k))
-
--- a literal that is not there is not set, nor is its atom's other one
-pub can_set_is : (atoms : ℕ) (codes : List ℕ) (c : ℕ) → has codes c ≡ false → has codes (opposite c) ≡ false → can_set atoms codes c ≡ ltb (atom_of c) atoms
-can_set_is atoms codes c h o = let u = names_has codes c h o in both (ltb (atom_of c) atoms) (names codes (atom_of c)) u
-  where
-    both : (b n : Bool) → n ≡ false → (b && not n) ≡ b
-    both true n e = not_from_false n e
-    both false n e = refl
-
-pub cannot_set : (atoms : ℕ) (codes : List ℕ) (c d : ℕ) → atom_of d ≡ atom_of c → has codes d ≡ true → can_set atoms codes c ≡ false
-cannot_set atoms codes c d e h =
-    and_right (ltb (atom_of c) atoms) (not (names codes (atom_of c))) (not_from_true (names codes (atom_of c)) (ap (names codes) (sym e) ∙ has_names codes d h))
-
-pub can_set_by_opposite : (atoms : ℕ) (codes : List ℕ) (c : ℕ) (o : Bool) → atom_of c < atoms → has codes c ≡ false → o ≡ has codes (opposite c)
-    → not o ≡ can_set atoms codes c
-can_set_by_opposite atoms codes c o l h e =
-    ⊎_elim (λ t. not_from_true o t ∙ sym (cannot_set atoms codes c (opposite c) (atom_opposite c) (sym e ∙ t)))
-    (λ f. not_from_false o f ∙ sym (can_set_is atoms codes c h (sym e ∙ f) ∙ lt-ltb (atom_of c) atoms l))
-    (cases_Bool o)
+    let flags = flags_of atoms (c ∷ codes) in
+    fill_by_all (has codes) (set flags c false) (2 * atoms) false (length-set flags c false ∙ length_flags atoms (c ∷ codes))
+    (λ k l. grind (arith, common_steps, nat_tests, flag_at atoms (c ∷ codes) k, length_flags atoms (c ∷ codes)))
 
 pub can_set_facts : (atoms : ℕ) (codes : List ℕ) (c : ℕ) → can_set atoms codes c ≡ true → (atom_of c < atoms) × (names codes (atom_of c) ≡ false)
-can_set_facts atoms codes c h =
-    let p = and_parts (ltb (atom_of c) atoms) (not (names codes (atom_of c))) h in (ltb-true (atom_of c) atoms p.0, not-true (names codes (atom_of c)) p.1)
+can_set_facts atoms codes c h = grind (arith, nat_tests)
 
--- one more entry, newest first
-pub reverse_push : {A : Type 0} (xs : List A) (x : A) → reverse (xs ++ (x ∷ [])) ≡ x ∷ reverse xs
-reverse_push xs x = reverse-append xs (x ∷ [])
+-- with nothing set no flag is raised
+pub kept_none : (atoms room : ℕ) → atoms ≤ room → Kept atoms room [] (replicate (2 * atoms) false)
+kept_none atoms room r = record {
+  room = r;
+  apart = refl;
+  flagged = fill_by_all (has []) (replicate (2 * atoms) false) (2 * atoms) false (length-replicate (2 * atoms) false) (λ k l. grind (arith, common_steps));
+}
 
--- there is room for one more
-pub room_left : (atoms : ℕ) (xs : List Entry) (c : ℕ) → different atoms (codes_of (reverse xs)) ≡ true → can_set atoms (codes_of (reverse xs)) c ≡ true → length xs < atoms
-room_left atoms xs c d h =
-    let f = can_set_facts atoms (codes_of (reverse xs)) c h in
-    omega (
+module _ {atoms room : ℕ} {trail : Trail} {flags : List Bool} (kept : Kept atoms room trail flags) where
+  pub flags_long : length flags ≡ 2 * atoms
+  flags_long = ap length kept.flagged ∙ length_flags atoms (codes_of trail)
+
+  -- what a flag that was read says
+  pub flag_read : {n : ℕ} {x : Bool} (c : ℕ) → n ≡ length flags → c < n → x ≡ get_or flags c x → x ≡ has (codes_of trail) c
+  flag_read {n} {x} c long h read =
+      get_or_read_under flags c n x false read h long
+      ∙ ap (λ fs. get_or fs c false) kept.flagged
+      ∙ flag_at atoms (codes_of trail) c (omega (arith, flags_long))
+
+  pub flag_beyond : (c : ℕ) → length flags ≤ c → has (codes_of trail) c ≡ false
+  flag_beyond c h = has_beyond atoms (codes_of trail) c kept.apart (omega (arith, flags_long))
+
+  module _ (e : Entry) (free : can_set atoms (codes_of trail) e.code ≡ true) where
+    -- there is room for one more
+    pub room_left : length trail < atoms
+    room_left = grind (
       arith,
-      different_few atoms (c ∷ codes_of (reverse xs)) (different_add atoms c (codes_of (reverse xs)) f d),
-      length-map (reverse xs) (λ (e : Entry). e.code),
-      length-reverse xs,
+      nat_tests,
+      different_few atoms (e.code ∷ codes_of trail),
+      kept.apart,
+      length-map trail (λ (e : Entry). e.code),
     )
 
--- the codes of an assignment's literals, newest first
-abbrev pub set_codes : Assignment → List ℕ
-set_codes a = codes_of (reverse (vec_items a.entries))
+    pub kept_push : (room' : ℕ) → room ≤ room' → Kept atoms room' (e ∷ trail) (set flags e.code true)
+    kept_push room' r =
+        let f = can_set_facts atoms (codes_of trail) e.code free in record {
+          room = omega (arith, kept.room);
+          apart = different_add atoms e.code (codes_of trail) f kept.apart;
+          flagged = ap (λ fs. set fs e.code true) kept.flagged ∙ flags_push atoms (codes_of trail) e.code (omega (arith, f.0));
+        }
 
-pub flags_long : (a : Assignment) → vec_len a.flags ≡ 2 * a.atoms
-flags_long a = a.flags.ok.0 ∙ ap length a.flagged ∙ length_flags a.atoms (set_codes a)
+-- the newest entry is the last of those kept
+pub last_is_newest : {atoms room : ℕ} (xs : Trail) {ys : Trail} {flags : List Bool} {e : Entry} → Kept atoms room (reverse ys) flags → ys ≡ xs ++ (e ∷ []) → Kept atoms room (e ∷ reverse xs) flags
+last_is_newest xs kept is = rw (is, reverse-append) at kept
 
--- what a flag that was read says
-pub flag_read : (a : Assignment) (c : ℕ) (x : Bool) → c < vec_len a.flags → x ≡ get_or (vec_items a.flags) c x → x ≡ has (set_codes a) c
-flag_read a c x h r =
-    get_or_read_under (vec_items a.flags) c (vec_len a.flags) x false r h a.flags.ok.0
-    ∙ ap (λ fs. get_or fs c false) a.flagged
-    ∙ flag_at a.atoms (set_codes a) c (omega (arith, flags_long a, h))
-
-pub flags_none : (atoms : ℕ) → replicate (2 * atoms) false ≡ flags_of atoms []
-flags_none atoms =
-    fill_by_all (has []) (replicate (2 * atoms) false) (2 * atoms) false (length-replicate (2 * atoms) false)
-    (λ k l. get_or-replicate (2 * atoms) k false false l)
-
-pub codes_push : (xs ys : Trail) (e : Entry) → ys ≡ xs ++ (e ∷ []) → codes_of (reverse ys) ≡ e.code ∷ codes_of (reverse xs)
-codes_push xs ys e p = ap (λ zs. codes_of (reverse zs)) p ∙ ap codes_of (reverse_push xs e)
-
--- what holds after a literal is put on
-module _ (atoms : ℕ) (xs ys : Trail) (e : Entry) (is : ys ≡ xs ++ (e ∷ [])) (free : can_set atoms (codes_of (reverse xs)) e.code ≡ true) where
-  pub apart_push : different atoms (codes_of (reverse xs)) ≡ true → different atoms (codes_of (reverse ys)) ≡ true
-  apart_push d =
-      ap (different atoms) (codes_push xs ys e is)
-      ∙ different_add atoms e.code (codes_of (reverse xs)) (can_set_facts atoms (codes_of (reverse xs)) e.code free) d
-
-  pub flagged_push : (flags : List Bool) → flags ≡ flags_of atoms (codes_of (reverse xs)) → set flags e.code true ≡ flags_of atoms (codes_of (reverse ys))
-  flagged_push flags f =
-      let there = (can_set_facts atoms (codes_of (reverse xs)) e.code free).0 in
-      ap (λ fs. set fs e.code true) f
-      ∙ flags_push atoms (codes_of (reverse xs)) e.code (omega arith)
-      ∙ sym (ap (flags_of atoms) (codes_push xs ys e is))
-
--- what holds after a literal is taken off
-module _ (atoms : ℕ) (xs ys : Trail) (e : Entry) (is : ys ≡ xs ++ (e ∷ [])) (apart : different atoms (codes_of (reverse ys)) ≡ true) where
-  newest_facts : ((atom_of e.code < atoms) × (names (codes_of (reverse xs)) (atom_of e.code) ≡ false)) × (different atoms (codes_of (reverse xs)) ≡ true)
-  newest_facts = different_tail atoms e.code (codes_of (reverse xs)) (sym (ap (different atoms) (codes_push xs ys e is)) ∙ apart)
+-- what holds after the newest literal is taken off
+module _ {atoms room : ℕ} {trail : Trail} {flags : List Bool} {e : Entry} (kept : Kept atoms room (e ∷ trail) flags) where
+  newest_facts : ((atom_of e.code < atoms) × (names (codes_of trail) (atom_of e.code) ≡ false)) × (different atoms (codes_of trail) ≡ true)
+  newest_facts = different_tail atoms e.code (codes_of trail) kept.apart
 
   pub newest_there : e.code < 2 * atoms
   newest_there = let f = newest_facts.0.0 in omega arith
 
-  pub apart_pop : different atoms (codes_of (reverse xs)) ≡ true
-  apart_pop = newest_facts.1
-
   -- an atom is named once, so the literal is set no more
-  newest_gone : has (codes_of (reverse xs)) e.code ≡ false
-  newest_gone =
-      ⊎_elim (λ h. absurd (both_ways (names (codes_of (reverse xs)) (atom_of e.code)) newest_facts.0.1 (has_names (codes_of (reverse xs)) e.code h)))
-      (λ h. h) (cases_Bool (has (codes_of (reverse xs)) e.code))
+  pub newest_free : can_set atoms (codes_of trail) e.code ≡ true
+  newest_free = let f = newest_facts in grind (arith, nat_tests)
 
-  pub flagged_pop : (flags : List Bool) → flags ≡ flags_of atoms (codes_of (reverse ys)) → set flags e.code false ≡ flags_of atoms (codes_of (reverse xs))
-  flagged_pop flags f =
-      ap (λ fs. set fs e.code false) (f ∙ ap (flags_of atoms) (codes_push xs ys e is))
-      ∙ flags_pop atoms (codes_of (reverse xs)) e.code newest_there newest_gone
+  newest_gone : has (codes_of trail) e.code ≡ false
+  newest_gone = grind (arith, newest_facts, has_names (codes_of trail) e.code)
 
--- an atom by the flags of its two literals
-pub atom_unset : (codes : List ℕ) (a : ℕ) → has codes (2 * a) ≡ false → has codes (2 * a + 1) ≡ false → names codes a ≡ false
-atom_unset codes a p o =
-    let e : 2 * a / 2 ≡ a = omega arith in
-    ap (names codes) (sym e) ∙ names_has codes (2 * a) p (ap (has codes) (opposite_plain a) ∙ o)
+  pub kept_pop : (room' : ℕ) → room ≤ room' → Kept atoms room' trail (set flags e.code false)
+  kept_pop room' r = record {
+    room = omega (arith, kept.room);
+    apart = newest_facts.1;
+    flagged = ap (λ fs. set fs e.code false) kept.flagged ∙ flags_pop atoms (codes_of trail) e.code newest_there newest_gone;
+  }
 
-pub atom_plain : (codes : List ℕ) (a : ℕ) → has codes (2 * a) ≡ true → names codes a ≡ true
-atom_plain codes a h = let e : 2 * a / 2 ≡ a = omega arith in ap (names codes) (sym e) ∙ has_names codes (2 * a) h
-
-pub atom_other : (codes : List ℕ) (a : ℕ) → has codes (2 * a + 1) ≡ true → names codes a ≡ true
-atom_other codes a h = let e : (2 * a + 1) / 2 ≡ a = omega arith in ap (names codes) (sym e) ∙ has_names codes (2 * a + 1) h
+-- an atom is named where its literal or the opposite is set
+pub names_either : (codes : List ℕ) (a : ℕ) → names codes a ≡ (has codes (2 * a) || has codes (2 * a + 1))
+names_either [] a = refl
+names_either (x ∷ codes) a = let i = names_either codes a in grind (arith, nat_tests)

@@ -1,92 +1,65 @@
--- Loops over a list that may return early: what is left of the list gives the result of the whole.
-use Rattle.std.proofs.Common.{◌≡◌, ℕ, ◌+◌, ◌<◌, ◌≤◌, Bool, true, false, cond, not, ◌&&◌, ◌||◌, List, [], ◌∷◌, length, get_or, drop, Some, None, Option, sym, ap, ◌∙◌}
-use Rattle.std.proofs.lemmas.List.{at_drop_more, at_drop_all}
-use Rattle.std.proofs.lemmas.Bool.{cond-true, cond-false}
-use Rattle.steps.specs.Clauses.{Clause, is_true, is_false, dead, due, or_else, first_due}
-use Rattle.clauses.specs.Placed.{clause_at, clauses_at}
-use Rattle.clauses.specs.declared.posted.Place.{Place}
+-- What searches through a list, a clause or a range find.
+use Rattle.std.proofs.Common.{zero, suc, Bor, IfSome, IsSomeAnd, option_map, ◌≡◌, ℕ, ◌+◌, ◌<◌, ◌≤◌, Bool, true, false, cond, ◌&&◌, ◌||◌, List, [], ◌∷◌, length, get_or, Some, None, Option, MatchOption, sym, arith}
+use Rattle.std.specs.List.{list_any, list_all, HoldsAt}
+use Rattle.std.specs.Iterator.Runs.{Run, ItemsMapTo, AllItemsGive, IsFirstToGive}
+use denote.Param.Members.{Mut, Called}
+use Rattle.steps.specs.Clauses.{Clause, dead, due, or_else, AllSet, LowestUnset}
+use Rattle.theory.specs.Meaning.{names}
 
--- whether an element passes a test, which may look at what comes after it
-module _ {X : Type 0} (test : X → List X → Bool) (any : List X → Bool) (any_none : any [] ≡ false)
-    (any-more : (x : X) (xs : List X) → any (x ∷ xs) ≡ (test x xs || any xs)) (xs : List X) (i : ℕ) (left : any (drop i xs) ≡ any xs) where
-  pub any_here : (x : X) → i < length xs → x ≡ get_or xs i x → test x (drop (i + 1) xs) ≡ true → true ≡ any xs
-  any_here x h is t =
-      let s = at_drop_more any xs i x h in
-      let m = any-more x (drop (i + 1) xs) in
-      cc
+-- whether some element, or every element, passes a test
+pub any_by : {X : Type 0} (test : X → Bool) (any : List X → Bool) → any [] ≡ false → ((x : X) (xs : List X) → any (x ∷ xs) ≡ (test x || any xs))
+    → (xs : List X) → list_any test xs ≡ any xs
+any_by test any none more [] = sym none
+any_by test any none more (x ∷ xs) = let i = any_by test any none more xs in cc (more x xs)
 
-  pub any_further : (x : X) → i < length xs → x ≡ get_or xs i x → test x (drop (i + 1) xs) ≡ false → any (drop (i + 1) xs) ≡ any xs
-  any_further x h is t =
-      let s = at_drop_more any xs i x h in
-      let m = any-more x (drop (i + 1) xs) in
-      cc
+pub all_by : {X : Type 0} (test : X → Bool) (all : List X → Bool) → all [] ≡ true → ((x : X) (xs : List X) → all (x ∷ xs) ≡ (test x && all xs))
+    → (xs : List X) → list_all test xs ≡ all xs
+all_by test all none more [] = sym none
+all_by test all none more (x ∷ xs) = let i = all_by test all none more xs in cc (more x xs)
 
-  pub any_nowhere : length xs ≤ i → false ≡ any xs
-  any_nowhere h = let s = at_drop_all any xs i h in cc
+-- the due literal of a clause, where this literal is the unset one of those before it
+abbrev pub due_with : List ℕ → Option ℕ → Clause → Option ℕ
+due_with set None clause = due set clause
+due_with set (Some literal) clause = cond (dead set clause) (Some literal) None
 
--- whether every element passes a test
-module _ {X : Type 0} (test : X → Bool) (all : List X → Bool) (All-none : all [] ≡ true)
-    (All-more : (x : X) (xs : List X) → all (x ∷ xs) ≡ (test x && all xs)) (xs : List X) (i : ℕ) (left : all (drop i xs) ≡ all xs) where
-  pub all_fails : (x : X) → i < length xs → x ≡ get_or xs i x → test x ≡ false → false ≡ all xs
-  all_fails x h is t =
-      let s = at_drop_more all xs i x h in
-      let m = All-more x (drop (i + 1) xs) in
-      cc
+-- what a search through a list finds first
+module _ {X : Type 0} (find : X → Option ℕ) (first : List X → Option ℕ) (none : first [] ≡ None)
+    (more : (x : X) (xs : List X) → first (x ∷ xs) ≡ or_else (find x) (first xs)) where
+  nowhere : (xs : List X) → ((k : ℕ) (d : X) → k < length xs → find (get_or xs k d) ≡ None) → first xs ≡ None
+  nowhere [] h = none
+  nowhere (x ∷ xs) h = let i = nowhere xs (λ k d l. h (suc k) d (omega arith)) in cc (more x xs, h 0 x (omega arith))
 
-  pub all_further : (x : X) → i < length xs → x ≡ get_or xs i x → test x ≡ true → all (drop (i + 1) xs) ≡ all xs
-  all_further x h is t =
-      let s = at_drop_more all xs i x h in
-      let m = All-more x (drop (i + 1) xs) in
-      cc
+  here : (xs : List X) (i y : ℕ) → i < length xs → ((d : X) → find (get_or xs i d) ≡ Some y) → ((k : ℕ) (d : X) → k < i → find (get_or xs k d) ≡ None) → first xs ≡ Some y
+  here [] i y l h before = absurd (omega arith)
+  here (x ∷ xs) zero y l h before = cc (more x xs, h x)
+  here (x ∷ xs) (suc i) y l h before =
+      let later = here xs i y (omega arith) h (λ k d b. before (suc k) d (omega arith)) in
+      cc (more x xs, before 0 x (omega arith))
 
-  pub all_pass : length xs ≤ i → true ≡ all xs
-  all_pass h = let s = at_drop_all all xs i h in cc
+  -- by a closure that answers as `find` does
+  module _ {F : Type 0} (xs : List X) (g : Mut F (Bor X × Unit {0}) (Option ℕ)) (f : F)
+      (calls : (a : Bor X × Unit {0}) (r : Option ℕ) (q : F) → Called g f a r q → (q ≡ f) × (r ≡ find a.0.now)) where
+    given : (o : Option (Bor X)) (r : Option ℕ) (k : ℕ) → IfSome o (λ x. HoldsAt (λ y. x.now ≡ y) xs k) → IsSomeAnd o (λ x. Called g f (x, tt) r f) → (d : X) → find (get_or xs k d) ≡ r
+    given None r k at call d = absurd call
+    given (Some x) r k at call d = cc (at d, (calls (x, tt) r f call).1)
 
--- the due literal of a clause
-module _ (set : List ℕ) (clause : Clause) (i : ℕ) (left : due set (drop i clause) ≡ due set clause) where
-  due_here : i < length clause → is_false set (get_or clause i 0) ≡ false
-      → cond (is_true set (get_or clause i 0) || not (dead set (drop (i + 1) clause))) None (Some (get_or clause i 0)) ≡ due set clause
-  due_here h f =
-      sym (cond-false (is_false set (get_or clause i 0)) (due set (drop (i + 1) clause)) (cond (is_true set (get_or clause i 0) || not (dead set (drop (i + 1) clause))) None (Some (get_or clause i 0))) f)
-      ∙ sym (at_drop_more (due set) clause i 0 h)
-      ∙ left
+    came : (o : Option (Bor X)) (z : X) → option_map (λ x. x.now) o ≡ Some z → IfSome o (λ x. Called g f (x, tt) None f) → IsSomeAnd o (λ x. Called g f (x, tt) None f)
+    came None z e call = cc
+    came (Some x) z e call = call
 
-  module _ (here : i < length clause) where
-    pub due_further : is_false set (get_or clause i 0) ≡ true → due set (drop (i + 1) clause) ≡ due set clause
-    due_further f =
-        sym (cond-true (is_false set (get_or clause i 0)) (due set (drop (i + 1) clause)) (cond (is_true set (get_or clause i 0) || not (dead set (drop (i + 1) clause))) None (Some (get_or clause i 0))) f)
-        ∙ sym (at_drop_more (due set) clause i 0 here)
-        ∙ left
+    pub first_found : {S : Type 0} {steps : S → Option (Bor X) → S → Type 0} (r : Option ℕ) (p : Run steps) → ItemsMapTo p (λ x. x.now) xs
+        → MatchOption r ((p.whole ≡ true) × AllItemsGive p g f None) (λ y. (i : ℕ) × (i < p.len) × (p.len ≡ i + 1) × IsFirstToGive p g f (Some y) None i) → r ≡ first xs
+    first_found None p are all =
+        let each = all.1 (λ a r q c. (calls a r q c).0) in
+        sym (nowhere xs (λ k d l. given (p.at k) None k (are.3 k) (came (p.at k) _ (are.2 k d (omega (arith, are.1 all.0))) (each k)) d))
+    first_found (Some y) p are found =
+        let told = found.3 (λ a r q c. (calls a r q c).0) in
+        sym (here xs found.0 y (omega (arith, are.0, found.1)) (given (p.at found.0) (Some y) found.0 (are.3 found.0) told.0) (λ k d b. given (p.at k) None k (are.3 k) (told.1 k b) d))
 
-    pub due_is : is_false set (get_or clause i 0) ≡ false → is_true set (get_or clause i 0) ≡ false → dead set (drop (i + 1) clause) ≡ true
-        → Some (get_or clause i 0) ≡ due set clause
-    due_is f t d = let h = due_here here f in cc
-
-    pub due_true : is_false set (get_or clause i 0) ≡ false → is_true set (get_or clause i 0) ≡ true → ◌≡◌ {A = Option ℕ} None (due set clause)
-    due_true f t = let h = due_here here f in cc
-
-    pub due_alive : is_false set (get_or clause i 0) ≡ false → is_true set (get_or clause i 0) ≡ false → dead set (drop (i + 1) clause) ≡ false
-        → ◌≡◌ {A = Option ℕ} None (due set clause)
-    due_alive f t d = let h = due_here here f in cc
-
-  pub due_nowhere : length clause ≤ i → ◌≡◌ {A = Option ℕ} None (due set clause)
-  due_nowhere h = let s : due set (drop i clause) ≡ None = at_drop_all (due set) clause i h in cc
-
--- the first due literal of the clauses at some places
-module _ (set : List ℕ) (literals : List ℕ) (places : List Place) (i : ℕ)
-    (left : first_due set (clauses_at literals (drop i places)) ≡ first_due set (clauses_at literals places)) where
-  module _ (place : Place) (here : i < length places) (is : place ≡ get_or places i place) where
-    first_due_step : or_else (due set (clause_at literals place)) (first_due set (clauses_at literals (drop (i + 1) places))) ≡ first_due set (clauses_at literals places)
-    first_due_step =
-        ap (λ p. or_else (due set (clause_at literals p)) (first_due set (clauses_at literals (drop (i + 1) places)))) is
-        ∙ sym (at_drop_more (λ ps. first_due set (clauses_at literals ps)) places i place here)
-        ∙ left
-
-    pub first_due_here : (l : ℕ) → due set (clause_at literals place) ≡ Some l → Some l ≡ first_due set (clauses_at literals places)
-    first_due_here l d = let s = first_due_step in cc
-
-    pub first_due_further : due set (clause_at literals place) ≡ None → first_due set (clauses_at literals (drop (i + 1) places)) ≡ first_due set (clauses_at literals places)
-    first_due_further d = let s = first_due_step in cc
-
-  pub first_due_nowhere : length places ≤ i → ◌≡◌ {A = Option ℕ} None (first_due set (clauses_at literals places))
-  first_due_nowhere h = let s : first_due set (clauses_at literals (drop i places)) ≡ None = at_drop_all (λ ps. first_due set (clauses_at literals ps)) places i h in cc
+-- the first atom of a range that is unset
+pub lowest_from_first : {n atoms : ℕ} (set : List ℕ) (r : Option ℕ) → n ≡ atoms
+    → MatchOption r ((a : ℕ) → 0 ≤ a → a < n → names set a ≡ true)
+    (λ a. (0 ≤ a) × (a < n) × (names set a ≡ false) × ((lower : ℕ) → 0 ≤ lower → lower < a → names set lower ≡ true))
+    → MatchOption r (AllSet atoms set) (λ a. LowestUnset atoms set a)
+lowest_from_first set None e all = λ a below. all a (omega arith) (omega arith)
+lowest_from_first set (Some a) e first = record { there = omega (arith, first.1); unset = first.2; lowest = λ lower below. first.3 lower (omega arith) below }

@@ -1,11 +1,12 @@
 // The set literals with their marks, and for each literal whether it is set.
-ghost use Rattle.std.specs.Prelude.{◌≡◌, ◌≤◌, true, [], ◌∷◌, ◌++◌, reverse, IfOk, if◌then◌else◌, Ok, Err, vec_capacity, MatchOption};
+ghost use Rattle.std.specs.Prelude.{◌≡◌, true, [], ◌∷◌, IfOk, IfSome, if◌then◌else◌, Ok, Err, MatchOption};
 ghost use Rattle.steps.specs.Clauses.{opposite, dead, due, AllSet, LowestUnset};
 ghost use Rattle.steps.specs.Steps.{codes_of};
-ghost use Rattle.theory.specs.Meaning.{has, different};
-ghost use Rattle.clauses.specs.Standing.{flags_of, can_set, newest, older};
+ghost use Rattle.theory.specs.Meaning.{has, names, different};
+ghost use Rattle.clauses.specs.Standing.{can_set, newest, older};
 
 use std::alloc::{AllocError, Global};
+use std::marker::Model;
 use steps::Entry;
 
 // The opposite of a literal.
@@ -15,21 +16,30 @@ pub fn opposite(code: u16) -> u16
     if code % 2 == 0 { code + 1 } else { code - 1 }
 }
 
-// The set literals, oldest first, which are of different atoms. The flags say of each literal's code whether it is set.
+// The set literals, oldest first, which are of different atoms. The flags tell in one look whether a literal is set.
 #[derive(Drop)]
 pub struct Assignment {
     atoms: u16,
     entries: Vec<Entry>,
     flags: Vec<bool>,
-    ghost room: { atoms ≤ vec_capacity entries },
-    ghost apart: { different atoms (codes_of (reverse entries.items)) ≡ true },
-    ghost flagged: { flags.items ≡ flags_of atoms (codes_of (reverse entries.items)) },
+}
+
+// Contracts see how many atoms there are, and the entries newest first.
+impl Model for Assignment {
+    ghost use Rattle.std.specs.Prelude.{reverse, vec_capacity};
+    ghost use Rattle.clauses.specs.Standing.{Standing, Kept};
+
+    ghost Value = { Standing };
+
+    ghost view = { λ a. record { atoms = a.atoms; trail = reverse a.entries.items } };
+
+    ghost invariant = { λ a. Kept a.atoms (vec_capacity a.entries) (reverse a.entries.items) a.flags.items };
 }
 
 impl Assignment {
     // No literal is set, and there is room for one of each atom.
     pub fn new(heap: Global, atoms: u16) -> Result<Assignment, AllocError>
-        ensures { IfOk result (λ a. (a.atoms ≡ atoms) × (a.entries.items ≡ [])) }
+        ensures { IfOk result (λ a. a ≡ record { atoms = atoms; trail = [] }) }
     {
         let entries = Vec::with_capacity(heap, atoms as usize)?;
         let flags = vec![in heap; false; 2 * atoms as usize]?;
@@ -40,36 +50,47 @@ impl Assignment {
         })
     }
 
-    // How many atoms there are.
+    // How many atoms there are. The set literals are of different ones.
     pub fn atoms(&self) -> u16
-        ensures { result ≡ self.now.atoms }
+        ensures count { result ≡ self.now.atoms }
+        ensures apart { different self.now.atoms (codes_of self.now.trail) ≡ true }
     {
-        let Assignment { atoms, .. } = self;
-        *atoms
+        self.atoms
     }
 
     // Whether the literal is set.
     pub fn has(&self, code: u16) -> bool
-        ensures { result ≡ has (codes_of (reverse self.now.entries.items)) code }
+        ensures { result ≡ has (codes_of self.now.trail) code }
     {
-        let code = code as usize;
+        self.is_set(code as usize)
+    }
+
+    // The same of any code, also of one past those of the atoms.
+    fn is_set(&self, code: usize) -> bool
+        ensures { result ≡ has (codes_of self.now.trail) code }
+    {
         code < self.flags.len() && self.flags[code]
+    }
+
+    // Whether one of the set literals is of the atom.
+    fn names(&self, atom: u16) -> bool
+        ensures { result ≡ names (codes_of self.now.trail) atom }
+    {
+        let plain = 2 * atom as usize;
+        self.is_set(plain) || self.is_set(plain + 1)
     }
 
     // Whether the literal's atom is there and is unset.
     pub fn can_set(&self, code: u16) -> bool
-        ensures { result ≡ can_set self.now.atoms (codes_of (reverse self.now.entries.items)) code }
+        ensures { result ≡ can_set self.now.atoms (codes_of self.now.trail) code }
     {
-        if code / 2 >= self.atoms {
-            return false;
-        }
-        !self.has(code) && !self.has(opposite(code))
+        code / 2 < self.atoms && !self.names(code / 2)
     }
 
     // Puts a literal on the end, or hands it back where its atom is not there or is set.
     pub fn push(&mut self, entry: Entry) -> Result<(), Entry>
-        ensures answer { result ≡ (if can_set self.old.atoms (codes_of (reverse self.old.entries.items)) entry.code then Ok tt else Err entry) }
-        ensures entries { self.new.entries.items ≡ (if can_set self.old.atoms (codes_of (reverse self.old.entries.items)) entry.code then self.old.entries.items ++ (entry ∷ []) else self.old.entries.items) }
+        ensures answer { result ≡ (if can_set self.old.atoms (codes_of self.old.trail) entry.code then Ok tt else Err entry) }
+        ensures trail { self.new.trail ≡ (if can_set self.old.atoms (codes_of self.old.trail) entry.code then entry ∷ self.old.trail else self.old.trail) }
         ensures atoms { self.new.atoms ≡ self.old.atoms }
     {
         if !self.can_set(entry.code) {
@@ -80,11 +101,12 @@ impl Assignment {
         Ok(())
     }
 
-    // Takes the newest literal off.
+    // Takes the newest literal off. It can be set again.
     pub fn pop(&mut self) -> Option<Entry>
-        ensures answer { result ≡ newest (reverse self.old.entries.items) }
-        ensures entries { reverse self.new.entries.items ≡ older (reverse self.old.entries.items) }
+        ensures answer { result ≡ newest self.old.trail }
+        ensures trail { self.new.trail ≡ older self.old.trail }
         ensures atoms { self.new.atoms ≡ self.old.atoms }
+        ensures free { IfSome result (λ e. can_set self.new.atoms (codes_of self.new.trail) e.code ≡ true) }
     {
         let entry = self.entries.pop()?;
         self.flags[entry.code as usize] = false;
@@ -93,20 +115,14 @@ impl Assignment {
 
     // The lowest atom that is unset.
     pub fn lowest_unset(&self) -> Option<u16>
-        ensures { MatchOption result (AllSet self.now.atoms (codes_of (reverse self.now.entries.items))) (λ atom. LowestUnset self.now.atoms (codes_of (reverse self.now.entries.items)) atom) }
+        ensures { MatchOption result (AllSet self.now.atoms (codes_of self.now.trail)) (λ atom. LowestUnset self.now.atoms (codes_of self.now.trail) atom) }
     {
-        for atom in 0..self.atoms {
-            let code = 2 * atom as usize;
-            if !self.flags[code] && !self.flags[code + 1] {
-                return Some(atom);
-            }
-        }
-        None
+        (0..self.atoms).find(|atom| !self.names(*atom))
     }
 
     // Whether every literal of the clause is false.
     pub fn is_dead(&self, clause: &[u16]) -> bool
-        ensures { result ≡ dead (codes_of (reverse self.now.entries.items)) clause.now }
+        ensures { result ≡ dead (codes_of self.now.trail) clause.now }
     {
         for literal in clause {
             if !self.has(opposite(*literal)) {
@@ -118,17 +134,18 @@ impl Assignment {
 
     // The clause's one unset literal, where all its others are false.
     pub fn due(&self, clause: &[u16]) -> Option<u16>
-        ensures { result ≡ due (codes_of (reverse self.now.entries.items)) clause.now }
+        ensures { result ≡ due (codes_of self.now.trail) clause.now }
     {
-        for i in 0..clause.len() {
-            let literal = clause[i];
-            if !self.has(opposite(literal)) {
-                if self.has(literal) || !self.is_dead(&clause[i + 1..]) {
-                    return None;
-                }
-                return Some(literal);
+        let mut due = None;
+        for literal in clause {
+            if self.has(opposite(*literal)) {
+                continue;
             }
+            if self.has(*literal) || due.is_some() {
+                return None;
+            }
+            due = Some(*literal);
         }
-        None
+        due
     }
 }

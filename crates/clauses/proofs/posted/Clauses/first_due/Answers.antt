@@ -1,57 +1,27 @@
-use Rattle.std.proofs.Common.{◌≤◌, vec_items, vec_len, sym, ap, ◌∙◌, arith}
+use Rattle.std.proofs.Common.{◌≡◌, length, refl, rules}
+use Rattle.std.proofs.lemmas.Iterator.{YieldsList-from_slice}
+use Rattle.std.proofs.lemmas.Iterator.Adapters.{serves_from_places}
 use Rattle.steps.specs.Clauses.{due, first_due}
-use Rattle.clauses.specs.Placed.{clause_at, clauses_at, within}
-use Rattle.clauses.proofs.Flags.{set_codes}
-use Rattle.clauses.proofs.Places.{nth_place, place_at, within_at}
-use Rattle.clauses.proofs.Scans.{first_due_here, first_due_further, first_due_nowhere}
+use Rattle.steps.specs.Steps.{codes_of}
+use Rattle.clauses.specs.Placed.{clause_at, clauses_at}
+use Rattle.clauses.proofs.Scans.{first_found}
+use Rattle.clauses.proofs.Places.{within_item}
 use Rattle.clauses.proofs.posted.Clauses.first_due.Goals as goal
 
--- the clause's place lies within the literals
-lies_within : (c : goal.After-deref)
-    → ((nth_place c.as_slice-place-items.result.now c.loop-place.place-index).begin ≤ (nth_place c.as_slice-place-items.result.now c.loop-place.place-index).end)
-    × ((nth_place c.as_slice-place-items.result.now c.loop-place.place-index).end ≤ vec_len c.args.self.now.literals)
-lies_within c =
-    let count = vec_len c.args.self.now.literals in
-    within_at count c.as_slice-place-items.result.now c.loop-place.place-index
-    (ap (within count) c.as_slice-place-items.ensures.value ∙ c.args.self.now.inside) c.loop-place-test.true
-
-pub offset_bounds-deref-place : goal.offset_bounds-deref-place
-offset_bounds-deref-place c = let w = lies_within c in omega (arith, c.args.self.now.literals.small, c.args.self.now.literals.ok)
-
-pub slice_bounds-due-count : goal.slice_bounds-due-count
-slice_bounds-due-count c = (lies_within c).0
-
-pub slice_bounds-due-start : goal.slice_bounds-due-start
-slice_bounds-due-start c = (lies_within c).0
-
-pub slice_bounds-due-end : goal.slice_bounds-due-end
-slice_bounds-due-end c = let w = lies_within c in omega (arith, c.deref.ensures.len)
-
-pub returns-in-Some : goal.returns-in-Some
-returns-in-Some c =
-    let codes = set_codes c.args.assignment.now in
-    let literals = vec_items c.args.self.now.literals in
-    let places = c.as_slice-place-items.result.now in
-    let place = nth_place places c.loop-place.place-index in
-    first_due_here codes literals places c.loop-place.place-index c.loop-place.invariant
-    place c.loop-place-test.true (place_at places c.loop-place.place-index c.loop-place-test.true)
-    c.in-Some.literal (ap (λ all. due codes (clause_at all place)) (sym c.deref.ensures.value) ∙ sym c.in-Some.ensures)
-    ∙ ap (λ some. first_due codes (clauses_at literals some)) c.as_slice-place-items.ensures.value
-
-pub loop-place-preserved : goal.loop-place-preserved
-loop-place-preserved c =
-    let codes = set_codes c.args.assignment.now in
-    let literals = vec_items c.args.self.now.literals in
-    let places = c.as_slice-place-items.result.now in
-    let place = nth_place places c.loop-place.place-index in
-    first_due_further codes literals places c.loop-place.place-index c.loop-place.invariant
-    place c.loop-place-test.true (place_at places c.loop-place.place-index c.loop-place-test.true)
-    (ap (λ all. due codes (clause_at all place)) (sym c.deref.ensures.value) ∙ sym c.in_default.ensures)
+pub find_map-requires-clause-callable : goal.find_map-requires-clause-callable
+find_map-requires-clause-callable c =
+    serves_from_places (YieldsList-from_slice c.self.inside.places.items (cc)) (λ x q r. search rules)
+    (λ x k below is.
+    let w = within_item (length c.self.inside.literals.items) c.self.inside.places.items k x.now c.self.invariant.inside below is in
+    let long : length c.as_slice-literals.result.now ≡ length c.self.inside.literals.items = cc in
+    let small = c.self.inside.literals.small in
+    search rules)
 
 pub returns : goal.returns
 returns c =
-    let codes = set_codes c.args.assignment.now in
-    let literals = vec_items c.args.self.now.literals in
-    let places = c.as_slice-place-items.result.now in
-    first_due_nowhere codes literals places c.loop-place.place-index c.loop-place.invariant c.loop-place-test.false
-    ∙ ap (λ some. first_due codes (clauses_at literals some)) c.as_slice-place-items.ensures.value
+    let codes = codes_of c.args.assignment.now.trail in
+    let literals = c.self.inside.literals.items in
+    let found = c.find_map.ensures.runs in
+    let same : found.0.from.rest.now ≡ c.self.inside.places.items = cc in
+    rw (← c.self.view_is, ← same) (first_found (λ place. due codes (clause_at literals place)) (λ places. first_due codes (clauses_at literals places)) refl (λ _ _. refl) _ _ _ (λ a r q k. search rules) c.find_map.result found.0
+    (c.iter.ensures.runs found.0 found.0.seen) found.2)
