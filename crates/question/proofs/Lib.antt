@@ -1,3 +1,5 @@
 mod Sets
 mod Rules
 mod Turning
+mod Staged
+mod Replaying

@@ -1,13 +1,12 @@
 -- The rules, as the parts of the search carry them out.
 use Rattle.std.proofs.Common.{◌≡◌, ℕ, suc, ◌+◌, ◌*◌, ◌<◌, Bool, true, false, not, ◌&&◌, ◌⊎◌, ltb, List, [], ◌∷◌, length, is_some, Some, None, Option, MatchBool, sym, ap, ◌∙◌, subst, refl, inl, inr, arith}
-use Rattle.std.proofs.lemmas.Bool.{and_parts, and_from, lt-ltb, ltb-true, not-true, not_from_false, false≢true}
-use Rattle.clauses.specs.Standing.{can_set, newest, older}
+use Rattle.std.proofs.lemmas.Bool.{and_from, lt-ltb, not_from_false, false≢true}
+use Rattle.clauses.specs.Standing.{can_set}
 use Rattle.steps.specs.Clauses.{Clause, opposite, LowestUnset}
 use Rattle.steps.specs.Steps.{Trail, looking, backing, codes_of, entry, Step, decide, decide_clash, flip, flip_clash, drop_flipped, drop_forced, Steps, start_here, then}
 use Rattle.steps.specs.declared.Entry.{Entry}
 use Rattle.steps.specs.declared.Mark.{Mark}
 use Rattle.steps.specs.declared.Mark.TheVariants.{Decided, Flipped, Forced}
-use Rattle.steps.proofs.Judged.{none≢some}
 use Rattle.steps.proofs.Opposites.{opposite_plain, atom_opposite}
 use Rattle.steps.proofs.Sound.{Fresh, fresh_lowest, other_side}
 use Rattle.theory.specs.Meaning.{Meaning, Lawful, NoWorld, atom_of, names, HasWorld}

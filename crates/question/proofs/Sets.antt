@@ -1,7 +1,6 @@
 -- What the theory's answers say of the set literals. The codes are newest first, and the theory's stack has them oldest first.
 use Rattle.std.proofs.Common.{◌≡◌, ℕ, ◌≤◌, true, false, not, ◌||◌, eqb, ltb, leb, List, [], ◌∷◌, ◌++◌, reverse, length, ℤ, is_err, Some, None, Ok, Err, Option, Result, sym, refl, ap, ◌∙◌, subst, arith, MatchOption}
 use Rattle.std.proofs.ByRecursion.{All-push}
-use Rattle.std.proofs.lemmas.Grind.{common_steps}
 use Rattle.std.proofs.lemmas.List.{reverse-append, reverse-reverse}
 use Rattle.std.proofs.lemmas.Bool.{and_parts, ltb-true, not-true, lt-leb, le-ltb, cond-false, false≢true}
 use Rattle.std.specs.List.{AllByRecursion}
@@ -67,11 +66,11 @@ module _ (m : Meaning) (cs stack : List ℕ) (is : stack ≡ reverse cs) (code :
   grown (Ok done) e by = by.grown ∙ ap (λ xs. xs ++ (code ∷ [])) is ∙ sym (reverse_first code cs)
   grown (Err why) e by = absurd (false≢true (sym e))
 
--- the set literals have a world: the one of the theory's stack
-pub has_world : {m m' : Meaning} {stack : List ℕ} {world : List ℤ} (cs : List ℕ) → m' ≡ m → stack ≡ reverse cs → WorldOf m' stack world → HasWorld m cs
-has_world {m} {m'} {stack} {world} cs same is w =
+-- a world of the theory's stack is one of the set literals
+pub world_is : {m m' : Meaning} {stack : List ℕ} {world : List ℤ} (cs : List ℕ) → m' ≡ m → stack ≡ reverse cs → WorldOf m' stack world → WorldOf m cs world
+world_is {m} {m'} {stack} {world} cs same is w =
     let v = subst (λ (n : Meaning). WorldOf n stack world) same w in
-    record {
-      world = world;
-      is_world = record { whole = v.whole; all_hold = subst (AllByRecursion (λ c. m.holds c world ≡ true)) (ap reverse is ∙ reverse-reverse cs) (all_reverse (λ c. m.holds c world ≡ true) stack v.all_hold) };
-    }
+    record { whole = v.whole; all_hold = subst (AllByRecursion (λ c. m.holds c world ≡ true)) (ap reverse is ∙ reverse-reverse cs) (all_reverse (λ c. m.holds c world ≡ true) stack v.all_hold) }
+
+pub has_world : {m m' : Meaning} {stack : List ℕ} {world : List ℤ} (cs : List ℕ) → m' ≡ m → stack ≡ reverse cs → WorldOf m' stack world → HasWorld m cs
+has_world {world = world} cs same is w = record { world = world; is_world = world_is cs same is w }

@@ -5,17 +5,16 @@ use Rattle.steps.specs.Clauses.{Clause}
 use Rattle.steps.specs.Steps.{Trail}
 use Rattle.theory.specs.Meaning.{Meaning}
 use Rattle.theory.specs.declared.Theory.{Ghosts}
-use Rattle.question.specs.Held.{trail_in, clauses_in}
 use Rattle.question.specs.Stages.{state_in}
 use Rattle.question.specs.declared.asked.Question.{Question}
 
 module _ {T : Type 0} {theory : Ghosts T} where
   abbrev pub clauses_of : Question T theory → List Clause
-  clauses_of q = clauses_in q.clauses
+  clauses_of q = q.clauses
 
   -- the trail, newest first
   abbrev pub trail_of : Question T theory → Trail
-  trail_of q = trail_in q.solver.assignment
+  trail_of q = q.solver.assignment.trail
 
   abbrev pub state_of : Question T theory → State
   state_of q = state_in q.stage (clauses_of q) (trail_of q)

@@ -1,24 +1,14 @@
 -- What a question keeps true of the clauses, the set literals and its stage.
-use Rattle.std.specs.Prelude.{◌≡◌, ℕ, true, List, [], reverse, vec_items}
+use Rattle.std.specs.Prelude.{◌≡◌, ℕ, true, List, []}
 use Rattle.std.specs.Coded.{Coded-set, coded_list, Unit-prop}
 use Rattle.std.specs.List.{AllByRecursion, AllByRecursion-prop}
 use mathlib.Core.Bool.{Bool-set}
-use Rattle.clauses.specs.Placed.{clauses_at}
-use Rattle.clauses.specs.declared.assignment.Assignment.{Assignment}
-use Rattle.clauses.specs.declared.posted.Clauses.{Clauses}
 use Rattle.steps.specs.Calls.{are_atoms_below}
 use Rattle.steps.specs.Clauses.{Clause}
 use Rattle.steps.specs.Steps.{Trail}
 use Rattle.steps.specs.contracts.Entry as entry
 use Rattle.question.specs.declared.Stage.{Stage}
 use Rattle.question.specs.declared.Stage.TheVariants.{Open, Paused, Found, Closed}
-
--- the trail, newest first
-abbrev pub trail_in : Assignment → Trail
-trail_in a = reverse (vec_items a.entries)
-
-abbrev pub clauses_in : Clauses → List Clause
-clauses_in k = clauses_at (vec_items k.literals) (vec_items k.places)
 
 -- the clauses are over the atoms that there are
 abbrev pub AtomsThere : ℕ → List Clause → Type 0

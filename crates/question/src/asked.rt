@@ -1,5 +1,5 @@
 // The question itself.
-ghost use Rattle.question.specs.Held.{trail_in, clauses_in, AtomsThere, AtomsThere-prop, Resting, Resting-prop};
+ghost use Rattle.question.specs.Held.{AtomsThere, AtomsThere-prop, Resting, Resting-prop};
 
 use crate::Stage;
 use clauses::posted::Clauses;
@@ -16,6 +16,6 @@ pub struct Question<T: Theory> {
     solver: Solver<T>,
     stage: Stage,
     clauses: Clauses,
-    ghost atoms_there: { AtomsThere (T.meaning solver.theory).atoms (clauses_in clauses) } by { AtomsThere-prop (T.meaning solver.theory).atoms (clauses_in clauses) },
-    ghost resting: { Resting stage (trail_in solver.assignment) } by { Resting-prop stage (trail_in solver.assignment) },
+    ghost atoms_there: { AtomsThere (T.meaning solver.theory).atoms clauses } by { AtomsThere-prop (T.meaning solver.theory).atoms clauses },
+    ghost resting: { Resting stage solver.assignment.trail } by { Resting-prop stage solver.assignment.trail },
 }

@@ -1,5 +1,5 @@
 // The calls of a question.
-ghost use Rattle.std.specs.Prelude.{◌≡◌, [], MatchResult};
+ghost use Rattle.std.specs.Prelude.{◌≡◌, [], Ok, Err, MatchResult};
 ghost use Rattle.steps.specs.Calls.{state_after};
 ghost use Rattle.steps.specs.Steps.{Runs};
 ghost use Rattle.question.specs.Answers.{verdict_of, count_of, OpenBy, PostBy, SearchBy, ResumeBy, WorldBy, EndBy, CloseBy};
@@ -8,7 +8,9 @@ ghost use Rattle.question.specs.Stages.{stage_after};
 
 use super::Question;
 use super::searching::{Ended, Solver};
-use crate::{Ask, Denied, EndPass, FoundPass, OpenPass, Outcome, Pass, PausedPass, Stage, next_stage};
+use crate::{
+    Ask, Denied, EndPass, FoundPass, OpenPass, Outcome, Pass, PausedPass, Stage, next_stage,
+};
 use clauses::posted::Clauses;
 use refusals::Refusal;
 use std::alloc::{AllocFailed, Global};
@@ -35,7 +37,7 @@ impl<T: Theory> Question<T> {
 
     // The stage that a call leads to, its pass spent; or the pass back, with the refusal.
     fn take<P: Pass>(&self, pass: P, ask: Ask) -> Result<Stage, Denied<P>>
-        ensures { MatchResult result (λ stage. stage_after self.now.stage ask ≡ Ok stage) (λ denied. (stage_after self.now.stage ask ≡ Err denied.refusal) × (denied.pass ≡ pass)) }
+        ensures { MatchResult result (λ stage. Ok stage ≡ stage_after self.now.stage ask) (λ denied. (Err denied.refusal ≡ stage_after self.now.stage ask) × (denied.pass ≡ pass)) }
     {
         match next_stage(self.stage, ask) {
             Ok(stage) => {

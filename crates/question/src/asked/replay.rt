@@ -84,12 +84,16 @@ impl<T: Theory> Question<T> {
         match *call {
             Call::Post(clause) => Ok(self.replay_post(clause)),
             Call::Search(grant) => Ok(answer_of(self.search(OpenPass(0), grant).map(Answer::from))),
-            Call::Resume(grant) => Ok(answer_of(self.resume(PausedPass(0), grant).map(Answer::from))),
+            Call::Resume(grant) => Ok(answer_of(
+                self.resume(PausedPass(0), grant).map(Answer::from),
+            )),
             Call::World => self.replay_world(heap),
-            Call::End => Ok(answer_of(self.end(EndPass::Paused(PausedPass(0))).map(|pass| {
-                pass.spend();
-                Answer::Ended
-            }))),
+            Call::End => Ok(answer_of(
+                self.end(EndPass::Paused(PausedPass(0))).map(|pass| {
+                    pass.spend();
+                    Answer::Ended
+                }),
+            )),
             Call::Close => Ok(answer_of(self.close(OpenPass(0)).map(|()| Answer::Closed))),
         }
     }

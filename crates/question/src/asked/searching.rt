@@ -3,7 +3,7 @@ ghost use Rattle.std.specs.Prelude.{◌≡◌, ◌≤◌, true, [], reverse, vec
 ghost use Rattle.clauses.specs.Standing.{can_set};
 ghost use Rattle.steps.specs.Clauses.{LowestUnset};
 ghost use Rattle.steps.specs.Steps.{codes_of, Runs};
-ghost use Rattle.question.specs.Held.{trail_in, clauses_in, AtomsThere};
+ghost use Rattle.question.specs.Held.{AtomsThere};
 ghost use Rattle.question.specs.Turns.{Added, Rejected, Popped, OtherSide, Dropped, BackedUp, Exhausted, TurnBackBy, DecidedBy, TurnBy, CountWithin};
 
 use clauses::assignment::{Assignment, opposite};
@@ -19,7 +19,7 @@ pub struct Solver<T: Theory> {
     pub(super) assignment: Assignment,
     conflict: Vec<u16>,
     ghost same_atoms: { assignment.atoms ≡ (T.meaning theory).atoms },
-    ghost same_stack: { T.stack theory ≡ reverse (codes_of (trail_in assignment)) },
+    ghost same_stack: { T.stack theory ≡ reverse (codes_of assignment.trail) },
     ghost conflict_places: { vec_len conflict ≡ (T.meaning theory).atoms },
 }
 
@@ -31,7 +31,7 @@ pub struct Ended {
 
 // The memory of a solver over so many atoms.
 fn reserve(heap: Global, atoms: u16) -> Result<(Assignment, Vec<u16>), AllocError>
-    ensures { IfOk result (λ memory. (memory.0.atoms ≡ atoms) × (trail_in memory.0 ≡ []) × (vec_len memory.1 ≡ atoms)) }
+    ensures { IfOk result (λ memory. (memory.0 ≡ record { atoms = atoms; trail = [] }) × (vec_len memory.1 ≡ atoms)) }
 {
     let assignment = Assignment::new(heap, atoms)?;
     let conflict = vec![in heap; 0; atoms as usize]?;
@@ -41,7 +41,7 @@ fn reserve(heap: Global, atoms: u16) -> Result<(Assignment, Vec<u16>), AllocErro
 impl<T: Theory> Solver<T> {
     // Empties the theory's stack. For want of memory the theory is given back as it was.
     pub fn new(heap: Global, theory: T) -> Result<Solver<T>, AllocFailed<T>>
-        ensures { MatchResult result (λ s. (T.meaning s.theory ≡ T.meaning theory) × (trail_in s.assignment ≡ [])) (λ back. back.value ≡ theory) }
+        ensures { MatchResult result (λ s. (T.meaning s.theory ≡ T.meaning theory) × (s.assignment.trail ≡ [])) (λ back. back.value ≡ theory) }
     {
         let Ok((assignment, conflict)) = reserve(heap, theory.sizes().atoms as u16) else {
             return Err(AllocFailed { value: theory });
@@ -71,9 +71,9 @@ impl<T: Theory> Solver<T> {
 
     // Sets a literal, and says whether it could: one that clashes is not set.
     fn try_set(&mut self, code: u16, mark: Mark) -> bool
-        requires { can_set (T.meaning self.old.theory).atoms (codes_of (trail_in self.old.assignment)) code ≡ true }
+        requires { can_set (T.meaning self.old.theory).atoms (codes_of self.old.assignment.trail) code ≡ true }
         ensures same { T.meaning self.new.theory ≡ T.meaning self.old.theory }
-        ensures by { MatchBool result (Added (T.meaning self.old.theory) (trail_in self.old.assignment) code mark (trail_in self.new.assignment)) (Rejected (T.meaning self.old.theory) (trail_in self.old.assignment) code (trail_in self.new.assignment)) }
+        ensures by { MatchBool result (Added (T.meaning self.old.theory) self.old.assignment.trail code mark self.new.assignment.trail) (Rejected (T.meaning self.old.theory) self.old.assignment.trail code self.new.assignment.trail) }
     {
         if self.theory.set(code, self.conflict.as_mut_slice()).is_err() {
             return false;
@@ -87,8 +87,8 @@ impl<T: Theory> Solver<T> {
     // Takes the newest entry off. It can be set again.
     fn undo(&mut self) -> Option<Entry>
         ensures same { T.meaning self.new.theory ≡ T.meaning self.old.theory }
-        ensures dropped { Popped (trail_in self.old.assignment) result (trail_in self.new.assignment) }
-        ensures unset { IfSome result (λ e. can_set (T.meaning self.new.theory).atoms (codes_of (trail_in self.new.assignment)) e.code ≡ true) }
+        ensures dropped { Popped self.old.assignment.trail result self.new.assignment.trail }
+        ensures unset { IfSome result (λ e. can_set (T.meaning self.new.theory).atoms (codes_of self.new.assignment.trail) e.code ≡ true) }
     {
         let entry = self.assignment.pop()?;
         let Ok(()) = self.theory.retreat(1) else {
@@ -100,16 +100,16 @@ impl<T: Theory> Solver<T> {
     // Takes all entries off.
     pub fn clear(&mut self)
         ensures same { T.meaning self.new.theory ≡ T.meaning self.old.theory }
-        ensures empty { trail_in self.new.assignment ≡ [] }
+        ensures empty { self.new.assignment.trail ≡ [] }
     {
         while self.undo().is_some() {}
     }
 
     // Tries the other side of an entry that came off, where that was decided.
     fn flip(&mut self, entry: Entry) -> bool
-        requires { can_set (T.meaning self.old.theory).atoms (codes_of (trail_in self.old.assignment)) entry.code ≡ true }
+        requires { can_set (T.meaning self.old.theory).atoms (codes_of self.old.assignment.trail) entry.code ≡ true }
         ensures same { T.meaning self.new.theory ≡ T.meaning self.old.theory }
-        ensures by { MatchBool result (OtherSide (T.meaning self.old.theory) entry (trail_in self.old.assignment) (trail_in self.new.assignment)) (Dropped (T.meaning self.old.theory) entry (trail_in self.old.assignment) (trail_in self.new.assignment)) }
+        ensures by { MatchBool result (OtherSide (T.meaning self.old.theory) entry self.old.assignment.trail self.new.assignment.trail) (Dropped (T.meaning self.old.theory) entry self.old.assignment.trail self.new.assignment.trail) }
     {
         match entry.mark {
             Mark::Decided => self.try_set(opposite(entry.code), Mark::Flipped),
@@ -120,7 +120,7 @@ impl<T: Theory> Solver<T> {
     // Backs up to the other side of the newest decision that has one. Says whether there was any.
     fn back_up(&mut self) -> bool
         ensures same { T.meaning self.new.theory ≡ T.meaning self.old.theory }
-        ensures by { MatchBool result (BackedUp (T.meaning self.old.theory) (trail_in self.old.assignment) (trail_in self.new.assignment)) (Exhausted (T.meaning self.old.theory) (trail_in self.old.assignment) (trail_in self.new.assignment)) }
+        ensures by { MatchBool result (BackedUp (T.meaning self.old.theory) self.old.assignment.trail self.new.assignment.trail) (Exhausted (T.meaning self.old.theory) self.old.assignment.trail self.new.assignment.trail) }
     {
         while let Some(entry) = self.undo() {
             if self.flip(entry) {
@@ -133,7 +133,7 @@ impl<T: Theory> Solver<T> {
     // Backs up, as a turn of the search.
     fn turn_back(&mut self, count: u32) -> ControlFlow<Verdict, u32>
         ensures same { T.meaning self.new.theory ≡ T.meaning self.old.theory }
-        ensures by { TurnBackBy (T.meaning self.old.theory) (trail_in self.old.assignment) count result (trail_in self.new.assignment) }
+        ensures by { TurnBackBy (T.meaning self.old.theory) self.old.assignment.trail count result self.new.assignment.trail }
     {
         if self.back_up() {
             ControlFlow::Continue(count)
@@ -144,9 +144,9 @@ impl<T: Theory> Solver<T> {
 
     // Sets the lowest unset atom's plain literal, or its opposite where that clashes.
     fn decide(&mut self, atom: u16)
-        requires { LowestUnset (T.meaning self.old.theory).atoms (codes_of (trail_in self.old.assignment)) atom }
+        requires { LowestUnset (T.meaning self.old.theory).atoms (codes_of self.old.assignment.trail) atom }
         ensures same { T.meaning self.new.theory ≡ T.meaning self.old.theory }
-        ensures by { DecidedBy (T.meaning self.old.theory) (trail_in self.old.assignment) atom (trail_in self.new.assignment) }
+        ensures by { DecidedBy (T.meaning self.old.theory) self.old.assignment.trail atom self.new.assignment.trail }
     {
         if self.try_set(2 * atom, Mark::Decided) {
             return;
@@ -160,10 +160,10 @@ impl<T: Theory> Solver<T> {
     // One turn of the search: the first rule that applies, with the backing up that it leads to. What comes back is the
     // decisions counted by now, or the verdict.
     fn turn(&mut self, clauses: &Clauses, grant: u32, count: u32) -> ControlFlow<Verdict, u32>
-        requires there { AtomsThere (T.meaning self.old.theory).atoms (clauses_in clauses.now) }
+        requires there { AtomsThere (T.meaning self.old.theory).atoms clauses.now }
         requires granted { count ≤ grant }
         ensures same { T.meaning self.new.theory ≡ T.meaning self.old.theory }
-        ensures by { TurnBy (T.meaning self.old.theory) (clauses_in clauses.now) grant (trail_in self.old.assignment) count result (trail_in self.new.assignment) }
+        ensures by { TurnBy (T.meaning self.old.theory) clauses.now grant self.old.assignment.trail count result self.new.assignment.trail }
         ensures within { CountWithin grant result }
     {
         if clauses.some_dead(&self.assignment) {
@@ -187,9 +187,9 @@ impl<T: Theory> Solver<T> {
 
     // Searches from the trail as it is, with so many decisions granted.
     pub fn run(&mut self, clauses: &Clauses, grant: u32) -> Ended
-        requires { AtomsThere (T.meaning self.old.theory).atoms (clauses_in clauses.now) }
+        requires { AtomsThere (T.meaning self.old.theory).atoms clauses.now }
         ensures same { T.meaning self.new.theory ≡ T.meaning self.old.theory }
-        ensures runs { Runs (T.meaning self.old.theory) (clauses_in clauses.now) grant (trail_in self.old.assignment) result.verdict result.count (trail_in self.new.assignment) }
+        ensures runs { Runs (T.meaning self.old.theory) clauses.now grant self.old.assignment.trail result.verdict result.count self.new.assignment.trail }
     {
         let mut count = 0;
         loop {

@@ -1,5 +1,4 @@
 use Rattle.std.proofs.Common.{refl}
-use Rattle.question.specs.Held.{trail_in}
 use Rattle.question.proofs.Rules.{decided_plain, decided_other, not_both_clash}
 use Rattle.question.proofs.Sets.{has_world}
 use Rattle.question.proofs.asked.searching.Solver.decide.Goals as goal

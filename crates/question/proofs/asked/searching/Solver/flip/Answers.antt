@@ -1,4 +1,3 @@
-use Rattle.question.specs.Held.{trail_in}
 use Rattle.question.proofs.Rules.{can_set_opposite, flipped_by, not_decided}
 use Rattle.question.proofs.asked.searching.Solver.flip.Goals as goal
 

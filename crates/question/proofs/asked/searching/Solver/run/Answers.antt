@@ -1,7 +1,7 @@
 use Rattle.std.proofs.Common.{refl, ◌∙◌, subst, sym, arith}
 use Rattle.steps.specs.Steps.{start_here}
 use Rattle.theory.specs.Meaning.{Meaning}
-use Rattle.question.specs.Held.{clauses_in, AtomsThere}
+use Rattle.question.specs.Held.{AtomsThere}
 use Rattle.question.proofs.Turning.{turn_more, runs_over, moved_lowers}
 use Rattle.question.proofs.asked.searching.Solver.run.Goals as goal
 
@@ -9,7 +9,7 @@ pub loop-counted-init : goal.loop-counted-init
 loop-counted-init g c = record { same = refl; steps = start_here; granted = omega arith }
 
 pub turn-requires-clause-there : goal.turn-requires-clause-there
-turn-requires-clause-there g c = subst (λ (m : Meaning). AtomsThere m.atoms (clauses_in c.args.clauses.now)) (sym c.loop-counted.invariant.same) c.requires
+turn-requires-clause-there g c = subst (λ (m : Meaning). AtomsThere m.atoms c.args.clauses.now) (sym c.loop-counted.invariant.same) c.requires
 
 pub loop-counted-smaller : goal.loop-counted-smaller
 loop-counted-smaller g c = moved_lowers _ _ c.requires c.loop-counted.invariant.same c.in-Continue.ensures.by

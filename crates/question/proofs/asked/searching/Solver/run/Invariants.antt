@@ -1,16 +1,15 @@
 use Rattle.std.proofs.Common.{◌≡◌, ◌≤◌}
 use Rattle.steps.specs.Steps.{looking, Steps}
 use Rattle.steps.proofs.Weight.{weight}
-use Rattle.question.specs.Held.{trail_in, clauses_in}
 use Rattle.question.proofs.asked.searching.Solver.run.Given as goal
 
 abbrev pub invariant-loop-counted : goal.invariant-loop-counted
 invariant-loop-counted g l =
     record {
       same : g.T.Theory.meaning l.self.theory ≡ g.T.Theory.meaning l.initial.self.theory;
-      steps : Steps (g.T.Theory.meaning l.initial.self.theory) (clauses_in l.clauses) l.grant (looking (trail_in l.initial.self.assignment) 0) (looking (trail_in l.self.assignment) l.count);
+      steps : Steps (g.T.Theory.meaning l.initial.self.theory) l.clauses l.grant (looking l.initial.self.assignment.trail 0) (looking l.self.assignment.trail l.count);
       granted : l.count ≤ l.grant;
     }
 
 abbrev pub decreases-loop-counted : goal.decreases-loop-counted
-decreases-loop-counted g l = weight (g.T.Theory.meaning l.initial.self.theory).atoms (looking (trail_in l.self.assignment) l.count)
+decreases-loop-counted g l = weight (g.T.Theory.meaning l.initial.self.theory).atoms (looking l.self.assignment.trail l.count)

@@ -1,7 +1,6 @@
 use Rattle.std.proofs.Common.{◌≤◌, ◌∷◌, length, sym, refl, arith}
 use Rattle.std.proofs.lemmas.Grind.{common_steps}
 use Rattle.steps.specs.Steps.{codes_of}
-use Rattle.question.specs.Held.{trail_in}
 use Rattle.question.proofs.Sets.{no_world, grown, has_world}
 use Rattle.question.proofs.asked.searching.Solver.try_set.Goals as goal
 
@@ -14,7 +13,7 @@ returns-then-is_err-clause-by g c =
 pub returns-clause-by : goal.returns-clause-by
 returns-clause-by g c =
     let s = c.args.self.now in
-    let t = codes_of (trail_in s.assignment) in
+    let t = codes_of s.assignment.trail in
     record {
       has_world =
           has_world (c.args.code ∷ t) c.set.ensures.same (grown _ t _ s.same_stack _ _ _ _ _ c.set.result (sym c.if-is_err.ensures.value) c.set.ensures.by)

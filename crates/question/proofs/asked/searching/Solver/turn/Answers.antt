@@ -1,10 +1,7 @@
-use Rattle.std.proofs.Common.{◌≡◌, ◌<◌, sym, subst, refl, arith}
+use Rattle.std.proofs.Common.{sym, subst, arith}
 use Rattle.steps.specs.Clauses.{AllSet, LowestUnset}
 use Rattle.steps.specs.Steps.{codes_of, fail, found, paused}
-use Rattle.steps.specs.declared.Verdict.TheVariants.{Found, Paused}
 use Rattle.steps.proofs.Judged.{first_due_facts}
-use Rattle.theory.specs.Meaning.{Meaning}
-use Rattle.question.specs.Held.{trail_in, clauses_in}
 use Rattle.question.proofs.Rules.{fresh_can_set}
 use Rattle.question.proofs.Turning.{turned_back, count_within, forced, clashed, decided, stopped}
 use Rattle.question.proofs.asked.searching.Solver.turn.Goals as goal
@@ -34,18 +31,18 @@ returns-in_default-lowest_unset-clause-by g c =
     let s = c.args.self.now in
     stopped _ _ _ _ _
     (found (record { none_dead = sym c.if-some_dead.ensures; none_due = sym c.in_default.ensures })
-    (subst (λ n. AllSet n (codes_of (trail_in s.assignment))) s.same_atoms c.in_default-lowest_unset.ensures))
+    (subst (λ n. AllSet n (codes_of s.assignment.trail)) s.same_atoms c.in_default-lowest_unset.ensures))
 
 pub returns-then-count-grant-clause-by : goal.returns-then-count-grant-clause-by
 returns-then-count-grant-clause-by g c =
     let s = c.args.self.now in
     stopped _ _ _ _ _
     (paused (record { none_dead = sym c.if-some_dead.ensures; none_due = sym c.in_default.ensures })
-    (subst (λ n. LowestUnset n (codes_of (trail_in s.assignment)) c.in-Some-lowest_unset.atom) s.same_atoms c.in-Some-lowest_unset.ensures) c.if-count-grant.true)
+    (subst (λ n. LowestUnset n (codes_of s.assignment.trail) c.in-Some-lowest_unset.atom) s.same_atoms c.in-Some-lowest_unset.ensures) c.if-count-grant.true)
 
 pub decide-requires : goal.decide-requires
 decide-requires g c =
-    let s = c.args.self.now in subst (λ n. LowestUnset n (codes_of (trail_in s.assignment)) c.in-Some-lowest_unset.atom) s.same_atoms c.in-Some-lowest_unset.ensures
+    let s = c.args.self.now in subst (λ n. LowestUnset n (codes_of s.assignment.trail) c.in-Some-lowest_unset.atom) s.same_atoms c.in-Some-lowest_unset.ensures
 
 pub returns-clause-by : goal.returns-clause-by
 returns-clause-by g c =
@@ -53,7 +50,7 @@ returns-clause-by g c =
     decided _ _ _ _ _
     (record {
       quiet = record { none_dead = sym c.if-some_dead.ensures; none_due = sym c.in_default.ensures };
-      lowest = subst (λ n. LowestUnset n (codes_of (trail_in s.assignment)) c.in-Some-lowest_unset.atom) s.same_atoms c.in-Some-lowest_unset.ensures;
+      lowest = subst (λ n. LowestUnset n (codes_of s.assignment.trail) c.in-Some-lowest_unset.atom) s.same_atoms c.in-Some-lowest_unset.ensures;
       granted = omega arith;
     })
     c.decide.ensures.by
