@@ -49,11 +49,10 @@ impl<T: Theory> Question<T> {
     }
 
     // Adds a clause.
-    pub fn post(&mut self, pass: &OpenPass, clause: &[u16]) -> Result<(), Refusal>
+    pub fn post(&mut self, _pass: &OpenPass, clause: &[u16]) -> Result<(), Refusal>
         ensures same { meaning_of self.new ≡ meaning_of self.old }
         ensures by { PostBy (meaning_of self.old) (state_of self.old) clause.now result (state_of self.new) }
     {
-        let _ = pass;
         next_stage(self.stage, Ask::Post)?;
         let atoms = self.solver.assignment.atoms();
         self.clauses.post(atoms, clause)
@@ -101,10 +100,9 @@ impl<T: Theory> Question<T> {
     }
 
     // Writes the numbers that were found to the front of a list.
-    pub fn world(&self, pass: &FoundPass, list: &mut [i64]) -> Result<(), Refusal>
+    pub fn world(&self, _pass: &FoundPass, list: &mut [i64]) -> Result<(), Refusal>
         ensures { WorldBy (meaning_of self.now) (state_of self.now) (T.given_world self.now.solver.theory) list.old result list.new }
     {
-        let _ = pass;
         next_stage(self.stage, Ask::World)?;
         self.solver.theory.world(list)
     }

@@ -44,18 +44,9 @@ impl From<Outcome> for Answer {
 
     fn from(outcome: Outcome) -> Answer {
         match outcome {
-            Outcome::Found(pass, count) => {
-                pass.spend();
-                Answer::Found(count)
-            }
-            Outcome::NoneExist(pass, count) => {
-                pass.spend();
-                Answer::NoneExist(count)
-            }
-            Outcome::Paused(pass, count) => {
-                pass.spend();
-                Answer::Paused(count)
-            }
+            Outcome::Found(FoundPass(_), count) => Answer::Found(count),
+            Outcome::NoneExist(OpenPass(_), count) => Answer::NoneExist(count),
+            Outcome::Paused(PausedPass(_), count) => Answer::Paused(count),
         }
     }
 }
@@ -64,14 +55,10 @@ impl From<Outcome> for Answer {
 fn answer_of<P: Pass>(taken: Result<Answer, Denied<P>>) -> Answer
     ensures { MatchResult taken (λ answer. result ≡ answer) (λ denied. result ≡ Answer.Refused denied.refusal) }
 {
-    match taken {
-        Ok(answer) => answer,
-        Err(denied) => {
-            let Denied { refusal, pass } = denied;
-            pass.spend();
-            Answer::Refused(refusal)
-        }
-    }
+    taken.unwrap_or_else(|Denied { refusal, pass }| {
+        pass.spend();
+        Answer::Refused(refusal)
+    })
 }
 
 impl<T: Theory> Question<T> {
