@@ -68,21 +68,18 @@ impl<T: Theory> Question<T> {
         ensures same { meaning_of self.new ≡ meaning_of self.old }
         ensures by { PerformBy (meaning_of self.old) (state_of self.old) (call_of (meaning_of self.old).variables call.now) result (state_of self.new) }
     {
-        match *call {
-            Call::Post(clause) => Ok(self.replay_post(clause)),
-            Call::Search(grant) => Ok(answer_of(self.search(OpenPass(0), grant).map(Answer::from))),
-            Call::Resume(grant) => Ok(answer_of(
-                self.resume(PausedPass(0), grant).map(Answer::from),
-            )),
-            Call::World => self.replay_world(heap),
-            Call::End => Ok(answer_of(
-                self.end(EndPass::Paused(PausedPass(0))).map(|pass| {
-                    pass.spend();
-                    Answer::Ended
-                }),
-            )),
-            Call::Close => Ok(answer_of(self.close(OpenPass(0)).map(|()| Answer::Closed))),
-        }
+        let answer = match *call {
+            Call::Post(clause) => self.replay_post(clause),
+            Call::Search(grant) => answer_of(self.search(OpenPass(0), grant).map(Answer::from)),
+            Call::Resume(grant) => answer_of(self.resume(PausedPass(0), grant).map(Answer::from)),
+            Call::World => self.replay_world(heap)?,
+            Call::End => answer_of(
+                self.end(EndPass::Paused(PausedPass(0)))
+                    .map(|OpenPass(_)| Answer::Ended),
+            ),
+            Call::Close => answer_of(self.close(OpenPass(0)).map(|()| Answer::Closed)),
+        };
+        Ok(answer)
     }
 
     fn replay_post(&mut self, clause: &[u16]) -> Answer
