@@ -18,12 +18,8 @@ fn read_file<R: Read + Drop>(heap: Global, input: R) -> io::Result<Vec<u8>> {
 
 fn main(rt: HostRuntime) -> io::Result<()> {
     let file = read_file(rt.alloc(), rt.stdin())?;
-    let mut differences = vec![in rt.alloc(); DifferenceEntry {
-        a: 0,
-        b: 0,
-        limit: 0
-    }; MOST]?;
-    let mut equalities = vec![in rt.alloc(); EqualityEntry { a: 0, b: 0 }; MOST]?;
+    let mut differences = vec![in rt.alloc(); DifferenceEntry::default(); MOST]?;
+    let mut equalities = vec![in rt.alloc(); EqualityEntry::default(); MOST]?;
     match load(
         file.as_slice(),
         differences.as_mut_slice(),

@@ -1,19 +1,37 @@
--- One of the interface's laws of the equality theory: the labels of the set joins are a world of the set literals. This is
--- a proof; nothing in it has to be believed.
-use Rattle.std.specs.Prelude.{◌≡◌, ℕ, true, List}
-use Rattle.joining.proofs.Labelled.{length_labelled, holds_labelled}
+-- What the equality theory shows of its joins: in every world exactly one of a literal and its opposite holds, and the lowest
+-- joined variables are as the joins say wherever any numbers are. These are proofs; nothing in them has to be believed.
+use Rattle.std.specs.Prelude.{◌≡◌, ℕ, ◌+◌, ◌*◌, true, not, List, map, ℤ, refl}
+use Rattle.std.proofs.Common.{arith}
+use Rattle.std.proofs.lemmas.Bool.Decides.{nat_tests}
+use Rattle.std.specs.List.{AllByRecursion}
+use Rattle.joining.proofs.Labelled.{length_labelled, holds_labelled, agrees_from_world, lowest_labelled}
 use Rattle.joining.specs.declared.Join.{Join}
-use Rattle.joining.specs.Joins.{join_holds, labelled, agrees}
+use Rattle.joining.specs.Joins.{Fits, labelled}
+use Rattle.table_theory.specs.Drawing.{records_of, ProcedureLaws}
+use Rattle.table_theory.specs.Laws.{worldly}
 use Rattle.tables.specs.declared.EqualityEntry.{EqualityEntry}
-use Rattle.theory.proofs.Drawn.{all_codes}
-use Rattle.theory.specs.Meaning.{WorldOf}
-use Rattle.equality.specs.Equalities.{join_of, equality_meaning, codes_of, joins_of}
+use Rattle.tables.specs.Entries.{equality_check, equality_fits}
+use Rattle.equality.specs.Equalities.{spare_entry, entry_join, holds_in, equality_meaning, have_numbers, LowestWorld}
 
-pub worldly : (variables : ℕ) (table : List EqualityEntry) (joins : List Join) → joins ≡ joins_of table (codes_of joins)
-    → agrees joins (labelled joins variables) ≡ true → WorldOf (equality_meaning variables table) (codes_of joins) (labelled joins variables)
-worldly variables table joins drawn settled =
+one_of_two : (e : EqualityEntry) (a : ℕ) (world : List ℤ) → holds_in (entry_join e (2 * a + 1)) world ≡ not (holds_in (entry_join e (2 * a)) world)
+one_of_two e a world = grind (arith, nat_tests)
+
+join_fits : (variables : ℕ) (e : EqualityEntry) (code : ℕ) → equality_fits variables e ≡ true → Fits variables (entry_join e code)
+join_fits variables e code h = record { a_below = grind (arith, nat_tests); b_below = grind (arith, nat_tests) }
+
+pub join_laws : ProcedureLaws equality_check (λ (j : Join). j.code) entry_join Fits holds_in have_numbers labelled
+join_laws =
     record {
-      whole = length_labelled joins variables;
-      all_hold =
-          all_codes (λ j. j.code) (join_of table) joins drawn (λ j. join_holds (labelled joins variables) j ≡ true) (holds_labelled joins variables settled);
+      asked_code = λ _ _. refl;
+      asked_fits = join_fits;
+      one_of_two = one_of_two;
+      whole = length_labelled;
+      sound = holds_labelled;
+      complete = λ joins variables fit world whole h. agrees_from_world joins variables fit world h;
     }
+
+pub lowest_world : (variables : ℕ) (table : List EqualityEntry) (joins : List Join)
+    → joins ≡ records_of entry_join spare_entry table (map (λ (j : Join). j.code) joins) → AllByRecursion (Fits variables) joins → have_numbers joins variables ≡ true
+    → LowestWorld (equality_meaning variables table) joins (labelled joins variables)
+lowest_world variables table joins drawn fit h =
+    record { is_world = worldly join_laws spare_entry variables table joins drawn h; lowest = lowest_labelled joins variables fit }

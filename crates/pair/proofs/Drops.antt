@@ -1,63 +1,69 @@
 -- The newest literals of a pair are the newest of each side.
-use Rattle.std.proofs.Common.{◌≡◌, ℕ, ◌+◌, ◌-◌, ◌≤◌, ltb, List, ◌++◌, map, length, take, drop, Ok, sym, ap, ◌∙◌, arith}
-use Rattle.std.proofs.lemmas.List.{drop-map, length-drop, length-map, take_rest}
-use Rattle.std.proofs.lemmas.Bool.{cond-false, le-ltb}
-use Rattle.theory.proofs.Retreats.{retreated_front, retreat_went}
+use Rattle.std.proofs.Common.{◌≡◌, ℕ, ◌+◌, ◌-◌, ◌≤◌, count_by, List, ◌++◌, map, length, take, drop, Ok, sym, refl, ap, ◌∙◌, arith}
+use Rattle.std.proofs.lemmas.List.{drop-map, length-drop, length-map, take-append-drop, take_rest}
+use Rattle.std.proofs.lemmas.List.Recursion.{is_count_by}
+use Rattle.std.proofs.lemmas.Bool.Decides.{nat_tests}
+use Rattle.theory.proofs.Retreats.{different_retreated, retreated_front, retreat_went}
 use Rattle.theory.specs.Calls.{retreat_answer, retreated}
-use Rattle.pair.proofs.Sides.{both_lengths, left_of_parts, right_of_parts}
-use Rattle.pair.specs.Pairs.{left_of, right_of}
+use Rattle.theory.specs.declared.Sizes.{Sizes}
 use Rattle.theory.specs.declared.stack.Literal.{Literal}
+use Rattle.theory.specs.Meaning.{Meaning}
+use Rattle.pair.proofs.Sides.{both_lengths, left_of_append, right_of_append}
+use Rattle.pair.proofs.Together.{together_after}
+use Rattle.pair.specs.Pairs.{is_left, left_of, right_of, Together}
 
--- the codes of the newest records
-pub newest_codes : (came items : List Literal) (count : ℕ) → came ≡ items
-    → map (λ c. c.code) (take (length came - (length came - count)) (drop (length came - count) came))
-    ≡ drop (length (map (λ c. c.code) items) - count) (map (λ c. c.code) items)
-newest_codes came items count e =
-    ap (map (λ c. c.code)) (take_rest came (length came - count))
-    ∙ sym (drop-map (λ c. c.code) (length came - count) came)
-    ∙ ap (λ xs. drop (length came - count) (map (λ c. c.code) xs)) e
-    ∙ ap (λ n. drop (n - count) (map (λ c. c.code) items)) (ap length e ∙ sym (length-map items (λ c. c.code)))
+-- So many of the newest literals are the left's.
+pub record Newest (cut : ℕ) (codes : List ℕ) (count n : ℕ) : Type 0 where
+  pub within : count ≤ length codes
+  pub are : n ≡ length (left_of cut (drop (length codes - count) codes))
 
-module _ (cut : ℕ) (codes : List ℕ) (count lefts : ℕ) (within : count ≤ length codes) (are : lefts ≡ length (left_of cut (drop (length codes - count) codes))) where
+counted : (cut : ℕ) (items : List Literal) → length (left_of cut (map (λ c. c.code) items)) ≡ count_by (λ c. is_left cut c.code) items
+counted cut = is_count_by (λ items. length (left_of cut (map (λ c. c.code) items))) (λ c. is_left cut c.code) refl (λ x items. grind arith)
+
+pub newest : (cut : ℕ) (items : List Literal) (count : ℕ) {n : ℕ} → count ≤ length items
+    → n ≡ count_by (λ c. is_left cut c.code) (take (length items - (length items - count)) (drop (length items - count) items))
+    → Newest cut (map (λ c. c.code) items) count n
+newest cut items count within are =
+    record {
+      within = simp length-map within;
+      are = are ∙ sym (counted cut (take (length items - (length items - count)) (drop (length items - count) items))) ∙ simp (take_rest, length-map, drop-map);
+    }
+
+module _ {l r : Meaning} {lefts rights codes : List ℕ} {places : ℕ} {cut sizes : Sizes} (t : Together l r lefts rights codes places cut sizes)
+    {count n : ℕ} (w : Newest l.atoms codes count n) where
   abbrev older : List ℕ
   older = take (length codes - count) codes
 
-  abbrev newest : List ℕ
-  newest = drop (length codes - count) codes
+  abbrev new : List ℕ
+  new = drop (length codes - count) codes
 
-  pub retreated_older : retreated codes count ≡ take (length codes - count) codes
-  retreated_older = cond-false (ltb (length codes) count) codes (take (length codes - count) codes) (le-ltb (length codes) count within)
+  retreated_older : retreated codes count ≡ older
+  retreated_older = let within = w.within in grind (arith, nat_tests)
 
-  both : lefts + length (right_of cut newest) ≡ count
-  both = omega (arith, both_lengths cut newest, length-drop (length codes - count) codes)
+  rest : count ≡ n + length (right_of l.atoms new)
+  rest = omega (arith, w.are, w.within, both_lengths l.atoms new, length-drop (length codes - count) codes)
 
-  pub few_lefts : lefts ≤ count
-  few_lefts = let b = both in omega arith
+  pub few_lefts : n ≤ count
+  few_lefts = omega (arith, rest)
 
-  module _ (stack : List ℕ) where
-    module _ (is : stack ≡ left_of cut codes) where
-      left_parts : stack ≡ left_of cut older ++ left_of cut newest
-      left_parts = is ∙ left_of_parts cut (length codes - count) codes
+  left_parts : lefts ≡ left_of l.atoms older ++ left_of l.atoms new
+  left_parts = rw (t.left_stack, ← left_of_append) (ap (left_of l.atoms) (sym (take-append-drop (length codes - count) codes)))
 
-      pub left_went : retreat_answer stack lefts ≡ Ok tt
-      left_went = ap (λ xs. retreat_answer xs lefts) left_parts ∙ retreat_went (left_of cut older) (left_of cut newest) lefts are
+  right_parts : rights ≡ right_of l.atoms older ++ right_of l.atoms new
+  right_parts = rw (t.right_stack, ← right_of_append) (ap (right_of l.atoms) (sym (take-append-drop (length codes - count) codes)))
 
-      pub left_kept : retreated stack lefts ≡ left_of cut (retreated codes count)
-      left_kept =
-          ap (λ xs. retreated xs lefts) left_parts ∙ retreated_front (left_of cut older) (left_of cut newest) lefts are ∙ sym (ap (left_of cut) retreated_older)
+  pub left_went : retreat_answer lefts n ≡ Ok tt
+  left_went = rw left_parts (retreat_went (left_of l.atoms older) (left_of l.atoms new) n w.are)
 
-    module _ (is : stack ≡ right_of cut codes) where
-      right_parts : stack ≡ right_of cut older ++ right_of cut newest
-      right_parts = is ∙ right_of_parts cut (length codes - count) codes
+  pub right_went : retreat_answer rights (count - n) ≡ Ok tt
+  right_went = rw right_parts (retreat_went (right_of l.atoms older) (right_of l.atoms new) (count - n) (omega (arith, rest)))
 
-      rest : count - lefts ≡ length (right_of cut newest)
-      rest = let b = both in omega arith
-
-      pub right_went : retreat_answer stack (count - lefts) ≡ Ok tt
-      right_went = ap (λ xs. retreat_answer xs (count - lefts)) right_parts ∙ retreat_went (right_of cut older) (right_of cut newest) (count - lefts) rest
-
-      pub right_kept : retreated stack (count - lefts) ≡ right_of cut (retreated codes count)
-      right_kept =
-          ap (λ xs. retreated xs (count - lefts)) right_parts
-          ∙ retreated_front (right_of cut older) (right_of cut newest) (count - lefts) rest
-          ∙ sym (ap (right_of cut) retreated_older)
+  -- what is left of each side is its own of what is left
+  pub dropped_together : {l' r' : Meaning} {lefts' rights' codes' : List ℕ} {places' : ℕ} → l' ≡ l → r' ≡ r → places' ≡ places
+      → lefts' ≡ retreated lefts n → rights' ≡ retreated rights (count - n) → codes' ≡ retreated codes count
+      → Together l' r' lefts' rights' codes' places' cut sizes
+  dropped_together el er ep ls rs cs =
+      together_after t el er ep
+      (ls ∙ rw left_parts (retreated_front (left_of l.atoms older) (left_of l.atoms new) n w.are) ∙ ap (left_of l.atoms) (sym (cs ∙ retreated_older)))
+      (rs ∙ rw right_parts (retreated_front (right_of l.atoms older) (right_of l.atoms new) (count - n) (omega (arith, rest))) ∙ ap (right_of l.atoms) (sym (cs ∙ retreated_older)))
+      (rw cs (different_retreated _ codes count t.apart))

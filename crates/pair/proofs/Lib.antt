@@ -2,5 +2,5 @@ mod Drops
 mod Raising
 mod Sets
 mod Sides
-mod Values
+mod Together
 mod Writing

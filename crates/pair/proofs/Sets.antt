@@ -1,138 +1,153 @@
 -- What `set` of a side does, read as what it does to the pair.
-use Rattle.std.proofs.Common.{◌≡◌, ℕ, ◌+◌, ◌-◌, ◌*◌, ◌<◌, ◌≤◌, cond, ltb, leb, List, [], ◌∷◌, ◌++◌, length, take, drop, Some, None, Err, Option, sym, refl, ap, ◌∙◌, subst, arith, MatchOption}
+use Rattle.std.proofs.Common.{◌≡◌, ℕ, ◌+◌, ◌-◌, ◌*◌, ◌<◌, ◌≤◌, List, [], ◌∷◌, ◌++◌, length, take, drop, Ok, Some, None, Err, Option, Result, sym, refl, ap, ◌∙◌, subst, arith, MatchOption}
 use Rattle.std.proofs.lemmas.List.{length-map, take_at, drop_at}
-use Rattle.std.proofs.lemmas.Bool.{cond-false, le-ltb, lt-leb}
+use Rattle.std.proofs.lemmas.Bool.{cond-true, cond-false, le-ltb, lt-ltb}
+use Rattle.std.proofs.lemmas.Bool.Decides.{nat_tests}
 use Rattle.std.specs.List.{AllByRecursion}
 use Rattle.refusals.specs.Grounds.{clash_count}
 use Rattle.refusals.specs.declared.Refusal.{Refusal}
-use Rattle.refusals.specs.declared.Refusal.TheVariants.{NoSuchAtom, AtomSet, ConflictListShort}
-use Rattle.theory.specs.Calls.{set_ground, Conflict, Gained, Clashed, NotLookedAt, SetBy}
+use Rattle.theory.proofs.Grounds.{set_apart}
+use Rattle.theory.specs.Calls.{set_ground, ground_answer, Conflict, Gained, Clashed, NotLookedAt, SetBy, Picked}
+use Rattle.theory.specs.declared.Sizes.{Sizes}
 use Rattle.theory.specs.Meaning.{Meaning, WorldOf, atom_of, names}
 use Rattle.pair.proofs.Sides.{left_of_more, right_of_same, right_of_more, left_of_same, names_left, names_right, picked_left, picked_right, picked_hold, left_of_below, left_of_all, right_of_raised}
+use Rattle.pair.proofs.Together.{fits_if_any, together_after}
 use Rattle.pair.specs.Worlds.{left_world, right_world}
-use Rattle.pair.specs.Pairs.{left_of, right_of, raised, pair_meaning, raised_front, RaisedSetBy}
+use Rattle.pair.specs.Pairs.{is_left, left_of, right_of, raised, pair_conflict, pair_meaning, raised_front, shown_if, shown_pair, RaisedSetBy, Together}
 
 -- where there is such an atom and the list is long enough, it counts only whether the atom is set
-plain_ground : (atoms : ℕ) (stack : List ℕ) (code places : ℕ) → atom_of code < atoms → atoms ≤ places
-    → set_ground atoms stack code places ≡ cond (names stack (atom_of code)) (Some AtomSet) None
-plain_ground atoms stack code places below long =
-    cond-false (leb atoms (atom_of code)) (Some NoSuchAtom) (cond (names stack (atom_of code)) (Some AtomSet) (cond (ltb places atoms) (Some ConflictListShort) None)) (lt-leb atoms (atom_of code) below)
-    ∙ ap (λ o. cond (names stack (atom_of code)) (Some AtomSet) o) (cond-false (ltb places atoms) (Some ConflictListShort) None (le-ltb places atoms long))
+same_ground : (n m : ℕ) (xs ys : List ℕ) (code code' places : ℕ) → atom_of code < n → atom_of code' < m → n ≤ places → m ≤ places
+    → names xs (atom_of code) ≡ names ys (atom_of code') → set_ground n xs code places ≡ set_ground m ys code' places
+same_ground n m xs ys code code' places b b' p p' e = grind (arith, nat_tests)
 
--- both sides after the pair gained a literal
-pub record Grown (l r : Meaning) (codes : List ℕ) (code : ℕ) (list lefts rights list' : List ℕ) : Type 0 where
-  pub gained : Gained (pair_meaning l r) codes code list (codes ++ (code ∷ [])) list'
-  pub left_grown : lefts ≡ left_of l.atoms (codes ++ (code ∷ []))
-  pub right_grown : rights ≡ right_of l.atoms (codes ++ (code ∷ []))
+-- A side took the literal: the sides hold what is set and the literal, and `set` of the pair did what it should.
+pub record Grown (l r : Meaning) (codes : List ℕ) (places : ℕ) (cut sizes : Sizes) (code : ℕ) (list : List ℕ)
+    (l' r' : Meaning) (lefts' rights' list' : List ℕ) : Type 0 where
+  pub together : Together l' r' lefts' rights' (codes ++ (code ∷ [])) places cut sizes
+  pub gained : Gained (shown_pair places l r) codes code list (codes ++ (code ∷ [])) list'
 
-module _ (l r : Meaning) (codes : List ℕ) (code : ℕ) (list : List ℕ) (below : atom_of code < l.atoms + r.atoms) (long : l.atoms + r.atoms ≤ length list) where
-  abbrev cut : ℕ
-  cut = 2 * l.atoms
+-- the literal is of an atom that the pair shows, and the list is long enough
+module _ {l r : Meaning} {lefts rights codes : List ℕ} {places : ℕ} {cut sizes : Sizes} (t : Together l r lefts rights codes places cut sizes)
+    (code : ℕ) (list : List ℕ) (below : atom_of code < sizes.atoms) (long : sizes.atoms ≤ length list) where
+  abbrev n : ℕ
+  n = l.atoms
+
+  shown : shown_pair places l r ≡ pair_meaning l r
+  shown = let are = ap (λ (s : Sizes). s.atoms) t.sizes_are in ap (λ b. shown_if b l r) (fits_if_any places l r (omega arith))
+
+  sum : sizes.atoms ≡ l.atoms + r.atoms
+  sum = ap (λ s. s.atoms) t.sizes_are ∙ ap (λ (m : Meaning). m.atoms) shown
+
+  cut_atoms : cut.atoms ≡ l.atoms
+  cut_atoms = ap (λ s. s.atoms) t.cut_is
+
+  grown : {l' r' : Meaning} {lefts' rights' list' : List ℕ} → l' ≡ l → r' ≡ r → lefts' ≡ left_of n (codes ++ (code ∷ [])) → rights' ≡ right_of n (codes ++ (code ∷ []))
+      → set_ground (l.atoms + r.atoms) codes code (length list) ≡ None → list' ≡ list → Grown l r codes places cut sizes code list l' r' lefts' rights' list'
+  grown el er ls rs reason same =
+      let shows : set_ground (shown_pair places l r).atoms codes code (length list) ≡ None = rw shown reason in
+      record {
+        together = together_after t el er refl ls rs (set_apart (shown_pair places l r).atoms codes code (length list) t.apart (ap ground_answer shows));
+        gained = record { reason = shows; grown = refl; list_same = same };
+      }
 
   -- a literal of the left
-  module _ (h : code < cut) where
-    ground_left : set_ground (l.atoms + r.atoms) codes code (length list) ≡ set_ground l.atoms (left_of l.atoms codes) code (length list)
-    ground_left =
-        plain_ground (l.atoms + r.atoms) codes code (length list) below long
-        ∙ ap (λ t. cond t (Some AtomSet) None) (names_left l.atoms codes code h)
-        ∙ sym (plain_ground l.atoms (left_of l.atoms codes) code (length list) (omega arith) (omega arith))
+  module _ (h : code < 2 * cut.atoms) where
+    is_lefts : code < 2 * n
+    is_lefts = omega (arith, cut_atoms)
 
-    conflict_left : (conflict : List ℕ) → Conflict l (left_of l.atoms codes) code conflict → Conflict (pair_meaning l r) codes code conflict
+    ground_left : set_ground (l.atoms + r.atoms) codes code (length list) ≡ set_ground l.atoms lefts code (length list)
+    ground_left =
+        same_ground (l.atoms + r.atoms) l.atoms codes lefts code code (length list)
+        (omega (arith, sum)) (omega (arith, is_lefts)) (omega (arith, sum)) (omega (arith, sum)) (rw t.left_stack (names_left n codes code is_lefts))
+
+    conflict_left : (conflict : List ℕ) → Conflict l lefts code conflict → Conflict (pair_meaning l r) codes code conflict
     conflict_left conflict k =
-        let all : AllByRecursion (λ c. c < 2 * l.atoms) conflict =
-        subst (AllByRecursion (λ c. c < 2 * l.atoms)) (sym k.begins) (h, picked_hold (λ c. c < 2 * l.atoms) k.in_order (left_of_below l.atoms codes)) in
+        let picked = subst (Picked k.others) t.left_stack k.in_order in
+        let all : AllByRecursion (λ c. c < 2 * n) conflict = rw k.begins (is_lefts, picked_hold (λ c. c < 2 * n) picked (left_of_below n codes)) in
         record {
           others = k.others;
           begins = k.begins;
-          in_order = picked_left l.atoms codes k.others k.in_order;
-          no_world =
-              λ world w.
-              k.no_world (take l.variables world) (subst (λ cs. WorldOf l cs (take l.variables world)) (left_of_all l.atoms conflict all) (left_world l r conflict world w));
+          in_order = picked_left n codes k.others picked;
+          no_world = λ world w. k.no_world (take l.variables world) (subst (λ cs. WorldOf l cs (take l.variables world)) (left_of_all n conflict all) (left_world l r conflict world w));
         }
 
-    module _ (conflict lefts list' : List ℕ) (why : Refusal) where
-      refused_left_by : (o : Option ℕ)
-          → MatchOption o (NotLookedAt l (left_of l.atoms codes) code list why lefts list') (λ count. Clashed l (left_of l.atoms codes) conflict code list count lefts list')
-          → (lefts ≡ left_of l.atoms codes)
-          × MatchOption o (NotLookedAt (pair_meaning l r) codes code list why codes list') (λ count. Clashed (pair_meaning l r) codes conflict code list count codes list')
-      refused_left_by None n = (n.stack_same, record { reason = ground_left ∙ n.reason; stack_same = refl; list_same = n.list_same })
-      refused_left_by (Some count) k = (
-        k.stack_same,
-        record {
-          reason = ground_left ∙ k.reason;
-          stack_same = refl;
-          counted = k.counted;
-          written = k.written;
-          true_conflict = conflict_left conflict k.true_conflict;
-        },
-      )
+    module _ (conflict lefts' list' : List ℕ) (why : Refusal) where
+      refused_left : (o : Option ℕ) → MatchOption o (NotLookedAt l lefts code list why lefts' list') (λ count. Clashed l lefts conflict code list count lefts' list')
+          → MatchOption o (NotLookedAt (pair_meaning l r) codes code list why codes list') (λ count. Clashed (pair_meaning l r) codes conflict code list count codes list')
+      refused_left None k = record { reason = ground_left ∙ k.reason; stack_same = refl; list_same = k.list_same }
+      refused_left (Some count) k =
+          record {
+            reason = ground_left ∙ k.reason;
+            stack_same = refl;
+            counted = k.counted;
+            written = k.written;
+            true_conflict = conflict_left conflict k.true_conflict;
+          }
 
-      pub refused_left : SetBy l (left_of l.atoms codes) conflict code list (Err why) lefts list'
-          → (lefts ≡ left_of l.atoms codes) × SetBy (pair_meaning l r) codes conflict code list (Err why) codes list'
-      refused_left = refused_left_by (clash_count why)
+    pub left_refused : (lconf rconf : ℕ → List ℕ) (lefts' list' : List ℕ) {why : Refusal} {answer : Result (Unit {0}) Refusal} → answer ≡ Err why
+        → SetBy l lefts (lconf code) code list (Err why) lefts' list'
+        → SetBy (shown_pair places l r) codes (pair_conflict n lconf rconf code) code list answer codes list'
+    left_refused lconf rconf lefts' list' {why} is s =
+        let of_left : pair_conflict n lconf rconf code ≡ lconf code = cond-true (is_left n code) _ _ (lt-ltb code (2 * n) is_lefts) in
+        rw (is, shown, of_left) (refused_left (lconf code) lefts' list' why (clash_count why) s)
 
-    pub gained_left : (lefts list' : List ℕ) → Gained l (left_of l.atoms codes) code list lefts list' → Grown l r codes code list lefts (right_of l.atoms codes) list'
-    gained_left lefts list' k =
-        record {
-          gained = record { reason = ground_left ∙ k.reason; grown = refl; list_same = k.list_same };
-          left_grown = k.grown ∙ sym (left_of_more l.atoms codes code h);
-          right_grown = sym (right_of_same l.atoms codes code h);
-        }
+    pub left_gained : {l' : Meaning} {lefts' list' : List ℕ} → l' ≡ l → Gained l lefts code list lefts' list'
+        → Grown l r codes places cut sizes code list l' r lefts' rights list'
+    left_gained same k =
+        grown same refl (k.grown ∙ rw t.left_stack (sym (left_of_more n codes code is_lefts))) (t.right_stack ∙ sym (right_of_same n codes code is_lefts))
+        (ground_left ∙ k.reason) k.list_same
 
   -- a literal of the right
-  module _ (h : cut ≤ code) where
-    ground_right : set_ground (l.atoms + r.atoms) codes code (length list) ≡ set_ground r.atoms (right_of l.atoms codes) (code - cut) (length list)
-    ground_right =
-        plain_ground (l.atoms + r.atoms) codes code (length list) below long
-        ∙ ap (λ t. cond t (Some AtomSet) None) (names_right l.atoms codes code h)
-        ∙ sym (plain_ground r.atoms (right_of l.atoms codes) (code - cut) (length list) (omega arith) (omega arith))
+  module _ (h : 2 * cut.atoms ≤ code) where
+    is_rights : 2 * n ≤ code
+    is_rights = omega (arith, cut_atoms)
 
-    conflict_right : (conflict : List ℕ) → Conflict r (right_of l.atoms codes) (code - cut) conflict → Conflict (pair_meaning l r) codes code (raised cut conflict)
+    ground_right : set_ground (l.atoms + r.atoms) codes code (length list) ≡ set_ground r.atoms rights (code - 2 * n) (length list)
+    ground_right =
+        same_ground (l.atoms + r.atoms) r.atoms codes rights code (code - 2 * n) (length list)
+        (omega (arith, sum)) (omega (arith, sum, is_rights)) (omega (arith, sum)) (omega (arith, sum)) (rw t.right_stack (names_right n codes code is_rights))
+
+    conflict_right : (conflict : List ℕ) → Conflict r rights (code - 2 * n) conflict → Conflict (pair_meaning l r) codes code (raised (2 * n) conflict)
     conflict_right conflict k =
-        let back : code - cut + cut ≡ code = omega arith in
+        let back : code - 2 * n + 2 * n ≡ code = omega (arith, is_rights) in
         record {
-          others = raised cut k.others;
-          begins = ap (raised cut) k.begins ∙ ap (λ c. c ∷ raised cut k.others) back;
-          in_order = picked_right l.atoms codes k.others k.in_order;
+          others = raised (2 * n) k.others;
+          begins = ap (raised (2 * n)) k.begins ∙ ap (λ c. c ∷ raised (2 * n) k.others) back;
+          in_order = picked_right n codes k.others (subst (Picked k.others) t.right_stack k.in_order);
           no_world =
               λ world w.
-              k.no_world (drop l.variables world) (subst (λ cs. WorldOf r cs (drop l.variables world)) (right_of_raised l.atoms conflict) (right_world l r (raised cut conflict) world w));
+              k.no_world (drop l.variables world) (subst (λ cs. WorldOf r cs (drop l.variables world)) (right_of_raised n conflict) (right_world l r (raised (2 * n) conflict) world w));
         }
 
-    module _ (conflict rights written list' : List ℕ) (why : Refusal) where
-      refused_right_by : (o : Option ℕ)
-          → MatchOption o (NotLookedAt r (right_of l.atoms codes) (code - cut) list why rights written) (λ count. Clashed r (right_of l.atoms codes) conflict (code - cut) list count rights written)
-          → list' ≡ raised_front cut o written
-          → (rights ≡ right_of l.atoms codes)
-          × MatchOption o (NotLookedAt (pair_meaning l r) codes code list why codes list') (λ count. Clashed (pair_meaning l r) codes (raised cut conflict) code list count codes list')
-      refused_right_by None n e = (n.stack_same, record { reason = ground_right ∙ n.reason; stack_same = refl; list_same = e ∙ n.list_same })
-      refused_right_by (Some count) k e =
+    module _ (conflict rights' written list' : List ℕ) (why : Refusal) where
+      refused_right : (o : Option ℕ) → MatchOption o (NotLookedAt r rights (code - 2 * n) list why rights' written) (λ count. Clashed r rights conflict (code - 2 * n) list count rights' written)
+          → list' ≡ raised_front (2 * n) o written
+          → MatchOption o (NotLookedAt (pair_meaning l r) codes code list why codes list') (λ count. Clashed (pair_meaning l r) codes (raised (2 * n) conflict) code list count codes list')
+      refused_right None k e = record { reason = ground_right ∙ k.reason; stack_same = refl; list_same = e ∙ k.list_same }
+      refused_right (Some count) k e =
           let rest = drop (length conflict) list in
           let front : take count written ≡ conflict = ap (take count) k.written ∙ take_at conflict rest count (sym k.counted) in
           let back : drop count written ≡ rest = ap (drop count) k.written ∙ drop_at conflict rest count (sym k.counted) in
-          let long_as : length conflict ≡ length (raised cut conflict) = sym (length-map conflict (λ c. c + cut)) in (
-            k.stack_same,
-            record {
-              reason = ground_right ∙ k.reason;
-              stack_same = refl;
-              counted = k.counted ∙ long_as;
-              written =
-                  e
-                  ∙ ap (λ xs. raised cut xs ++ drop count written) front
-                  ∙ ap (λ ys. raised cut conflict ++ ys) (back ∙ ap (λ n. drop n list) long_as);
-              true_conflict = conflict_right conflict k.true_conflict;
-            },
-          )
+          let long_as : length (raised (2 * n) conflict) ≡ length conflict = length-map conflict (λ c. c + 2 * n) in
+          record {
+            reason = ground_right ∙ k.reason;
+            stack_same = refl;
+            counted = k.counted ∙ sym long_as;
+            written = e ∙ rw (front, back, long_as);
+            true_conflict = conflict_right conflict k.true_conflict;
+          }
 
-    pub refused_right : (conflict : ℕ → List ℕ) (rights list' : List ℕ) (why : Refusal)
-        → RaisedSetBy cut r (right_of l.atoms codes) conflict code list (Err why) rights list'
-        → (rights ≡ right_of l.atoms codes) × SetBy (pair_meaning l r) codes (raised cut (conflict (code - cut))) code list (Err why) codes list'
-    refused_right conflict rights list' why s = refused_right_by (conflict (code - cut)) rights s.0 list' why (clash_count why) s.1.0 s.1.1
+    pub right_refused : (lconf rconf : ℕ → List ℕ) (rights' list' : List ℕ) {why : Refusal} {answer : Result (Unit {0}) Refusal} → answer ≡ Err why
+        → RaisedSetBy (2 * cut.atoms) r rights rconf code list (Err why) rights' list'
+        → SetBy (shown_pair places l r) codes (pair_conflict n lconf rconf code) code list answer codes list'
+    right_refused lconf rconf rights' list' {why} is s =
+        let of_right : pair_conflict n lconf rconf code ≡ raised (2 * n) (rconf (code - 2 * n)) = cond-false (is_left n code) _ _ (le-ltb code (2 * n) is_rights) in
+        let s' = subst (λ k. RaisedSetBy (2 * k) r rights rconf code list (Err why) rights' list') cut_atoms s in
+        rw (is, shown, of_right) (refused_right (rconf (code - 2 * n)) rights' s'.0 list' why (clash_count why) s'.1.0 s'.1.1)
 
-    pub gained_right : (rights list' : List ℕ) → Gained r (right_of l.atoms codes) (code - cut) list rights list' → Grown l r codes code list (left_of l.atoms codes) rights list'
-    gained_right rights list' k =
-        record {
-          gained = record { reason = ground_right ∙ k.reason; grown = refl; list_same = k.list_same };
-          left_grown = sym (left_of_same l.atoms codes code h);
-          right_grown = k.grown ∙ sym (right_of_more l.atoms codes code h);
-        }
+    pub right_gained : (rconf : ℕ → List ℕ) {r' : Meaning} {rights' list' : List ℕ} → r' ≡ r
+        → RaisedSetBy (2 * cut.atoms) r rights rconf code list (Ok tt) rights' list' → Grown l r codes places cut sizes code list l r' lefts rights' list'
+    right_gained rconf {rights' = rights'} same s =
+        let k = subst (λ k. Gained r rights (code - 2 * k) list rights' s.0) cut_atoms s.1.0 in
+        grown refl same (t.left_stack ∙ sym (left_of_same n codes code is_rights)) (k.grown ∙ rw t.right_stack (sym (right_of_more n codes code is_rights)))
+        (ground_right ∙ k.reason) (s.1.1 ∙ k.list_same)

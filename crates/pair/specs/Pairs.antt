@@ -1,10 +1,10 @@
 -- What a pair of two theories means. The left's atoms and variables come first, the right's behind them.
-use Rattle.std.specs.Prelude.{◌≡◌, ℕ, ◌+◌, ◌-◌, ◌*◌, Bool, false, cond, ◌&&◌, List, [], ◌∷◌, ◌++◌, map, take, drop, ℤ, Some, None, Ok, Err, Option, Result, nat_le, nat_lt}
+use Rattle.std.specs.Prelude.{◌≡◌, ℕ, ◌+◌, ◌-◌, ◌*◌, Bool, true, false, cond, ◌&&◌, List, [], ◌∷◌, ◌++◌, map, take, drop, ℤ, Some, None, Ok, Err, Option, Result, nat_le, nat_lt}
 use Rattle.refusals.specs.Grounds.{clash_count}
 use Rattle.refusals.specs.declared.Refusal.{Refusal}
 use Rattle.theory.specs.declared.Sizes.{Sizes}
 use Rattle.theory.specs.Calls.{SetBy}
-use Rattle.theory.specs.Meaning.{Meaning, HasWorld}
+use Rattle.theory.specs.Meaning.{Meaning, HasWorld, different}
 
 -- A literal is the left's where its code is below twice the left's atoms. Otherwise it is the right's, which numbers it
 -- lower by so much.
@@ -62,6 +62,15 @@ shown_if fits l r = cond fits (pair_meaning l r) nothing
 -- what a pair shows
 abbrev pub shown_pair : ℕ → Meaning → Meaning → Meaning
 shown_pair places l r = shown_if (pair_fits places (sizes_of l) (sizes_of r)) l r
+
+-- What holds of the two sides of a pair: their stacks hold the literals that are set in the pair, each its own. `codes` are
+-- the pair's, and `lefts` and `rights` the sides'.
+pub record Together (l r : Meaning) (lefts rights codes : List ℕ) (places : ℕ) (cut sizes : Sizes) : Type 0 where
+  pub left_stack : lefts ≡ left_of l.atoms codes
+  pub right_stack : rights ≡ right_of l.atoms codes
+  pub cut_is : cut ≡ sizes_of l
+  pub sizes_are : sizes ≡ sizes_of (shown_pair places l r)
+  pub apart : different (shown_pair places l r).atoms codes ≡ true
 
 -- the world that a pair gives
 abbrev pub pair_world : Bool → List ℤ → List ℤ → List ℤ

@@ -4,9 +4,10 @@ use Rattle.std.proofs.Common.{⊎_elim, sym, ap, subst, ◌∙◌, arith}
 use Rattle.std.proofs.lemmas.List.{length-append, length-drop, length-take-le, take_at, drop_at}
 use Rattle.std.proofs.lemmas.Bool.{and_parts, cases_lt, cond-true, cond-false, le-ltb, leb-true, lt-ltb}
 use Rattle.std.specs.List.{AllByRecursion}
+use Rattle.theory.specs.declared.Sizes.{Sizes}
 use Rattle.theory.proofs.Apart.{different_few}
 use Rattle.theory.specs.Meaning.{Meaning, Lawful, AllHold, WorldOf, different}
-use Rattle.pair.specs.Pairs.{is_left, left_of, right_of, pair_meaning, sizes_of, pair_fits, shown_if, shown_pair, pair_world, PairExact}
+use Rattle.pair.specs.Pairs.{is_left, left_of, right_of, pair_meaning, sizes_of, pair_fits, shown_if, shown_pair, pair_world, PairExact, Together}
 
 -- the same literals may be written in another way
 pub world_at : (m : Meaning) (world : List ℤ) {codes codes' : List ℕ} → codes ≡ codes' → WorldOf m codes world → WorldOf m codes' world
@@ -130,3 +131,10 @@ module _ (l r : Meaning) where
       → WorldOf l (lefts codes) left → WorldOf r (rights codes) right
       → WorldOf (shown_pair places l r) codes (pair_world (pair_fits places (sizes_of l) (sizes_of r)) left right)
   pair_worldly places = shown_world (pair_fits places (sizes_of l) (sizes_of r))
+
+-- the law of the world, from the law of each side
+pub together_worldly : {l r : Meaning} {lefts rights codes : List ℕ} {places : ℕ} {cut sizes : Sizes} {left right : List ℤ}
+    → Together l r lefts rights codes places cut sizes → WorldOf l lefts left → WorldOf r rights right
+    → WorldOf (shown_pair places l r) codes (pair_world (pair_fits places (sizes_of l) (sizes_of r)) left right)
+together_worldly {l} {r} {lefts} {rights} {codes} {places} {cut} {sizes} {left} {right} t h k =
+    pair_worldly l r places codes left right t.apart (world_at l left t.left_stack h) (world_at r right t.right_stack k)

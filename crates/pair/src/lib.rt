@@ -1,21 +1,17 @@
 // A pair of two theories, again a theory: the left's atoms and variables come first, the right's behind them.
 #![tactic(auto)]
 
-ghost use Rattle.std.specs.Prelude.{◌≡◌, ◌+◌, ◌<◌, ◌≤◌, true, [], map, length, vec_capacity};
+ghost use Rattle.std.specs.Prelude.{◌≡◌, ◌+◌, ◌<◌, ◌≤◌, [], count_by, map, vec_items, vec_capacity};
 ghost use Rattle.std.specs.List.{AllByRecursion};
-ghost use Rattle.pair.specs.Held.{Together, codes_of, meaning_of, world_of, conflict_of, places_of};
-ghost use Rattle.pair.specs.Pairs.{left_of, raised, pair_fits, pair_sizes, shown_pair, sizes_of, PairExact, RaisedSetBy};
-ghost use Rattle.pair.specs.Worlds.{pair_lawful, pair_worldly, world_at};
+ghost use Rattle.pair.specs.Pairs.{is_left, raised, pair_sizes, RaisedSetBy, Together};
 
 use refusals::Refusal;
 use theory::stack::{Literal, Stack};
-use theory::{Sizes, Theory, retreat_all};
-
-const MOST: usize = 512;
+use theory::{MOST, Sizes, Theory, retreat_all};
 
 // Two theories side by side. The stack holds the literals in the order in which they came, whichever side they went to.
 #[derive(Drop)]
-pub struct Pair<L, R> {
+pub struct Pair<L: Theory, R: Theory> {
     left: L,
     right: R,
     // the left's sizes: literals and variables beyond them are the right's
@@ -23,20 +19,17 @@ pub struct Pair<L, R> {
     // what the pair shows
     sizes: Sizes,
     stack: Stack<Literal>,
+    ghost together: { Together (L.Theory.meaning left) (R.Theory.meaning right) (L.Theory.stack left) (R.Theory.stack right) (map (λ c. c.code) (vec_items stack.records)) (vec_capacity stack.records) cut sizes },
 }
 
 // How many of the literals are the left's, which has so many atoms.
 fn count_left(came: &[Literal], atoms: usize) -> usize
     requires { atoms ≤ 512 }
-    ensures { result ≡ length (left_of atoms (map (λ c. c.code) came.now)) }
+    ensures { result ≡ count_by (λ c. is_left atoms c.code) came.now }
 {
-    let mut count = 0;
-    for one in came {
-        if (one.code as usize) < 2 * atoms {
-            count += 1;
-        }
-    }
-    count
+    came.iter()
+        .filter(|literal| (literal.code as usize) < 2 * atoms)
+        .count()
 }
 
 // Numbers literals higher by so much.
@@ -56,29 +49,22 @@ fn set_raised<T: Theory>(
     code: u16,
     conflict: &mut [u16],
 ) -> Result<(), Refusal>
-    requires made { T.Theory.made theory.old }
-    requires higher { (by ≤ code) × (by ≤ 1024) }
-    ensures kept { T.Theory.made theory.new }
+    requires { (by ≤ code) × (by ≤ 1024) }
     ensures same { T.Theory.meaning theory.new ≡ T.Theory.meaning theory.old }
     ensures by { RaisedSetBy by (T.Theory.meaning theory.old) (T.Theory.stack theory.old) (T.Theory.given_conflict theory.old) code conflict.old result (T.Theory.stack theory.new) conflict.new }
 {
     let answer = theory.set(code - by, conflict);
-    if let Err(why) = answer {
-        if let Refusal::Clash(count) = why {
-            raise(&mut conflict[..count], by);
-        }
+    if let Err(Refusal::Clash(count)) = answer {
+        raise(&mut conflict[..count], by);
     }
     answer
 }
 
 // The theory with nothing set.
-fn emptied<T: Theory>(theory: T) -> T
-    requires { T.Theory.made theory }
-    ensures kept { T.Theory.made result }
+fn emptied<T: Theory>(mut theory: T) -> T
     ensures same { T.Theory.meaning result ≡ T.Theory.meaning theory }
     ensures dropped { T.Theory.stack result ≡ [] }
 {
-    let mut theory = theory;
     retreat_all(&mut theory);
     theory
 }
@@ -101,16 +87,18 @@ fn shown_sizes(left: Sizes, right: Sizes, places: usize) -> Sizes
 }
 
 impl<L: Theory, R: Theory> Pair<L, R> {
+    ghost use Rattle.pair.specs.Held.{codes_of, meaning_of};
+    ghost use Rattle.pair.specs.Pairs.{pair_fits, shown_pair, sizes_of, PairExact};
+    ghost use Rattle.std.specs.Prelude.{◌≡◌, true, [], vec_capacity};
+
     // The two theories side by side, with empty stacks, over the places handed in. A pair with too many atoms or variables,
     // or with more atoms than places, shows none.
     pub fn new(left: L, right: R, places: Vec<Literal>) -> Self
-        requires { (L.Theory.made left) × (R.Theory.made right) }
-        ensures together { Together L.Theory R.Theory result }
         ensures left { (L.Theory.meaning result.left ≡ L.Theory.meaning left) × (L.Theory.stack result.left ≡ []) }
         ensures right { (R.Theory.meaning result.right ≡ R.Theory.meaning right) × (R.Theory.stack result.right ≡ []) }
-        ensures shown { meaning_of L.Theory R.Theory result ≡ shown_pair (vec_capacity places) (L.Theory.meaning left) (R.Theory.meaning right) }
+        ensures shown { meaning_of result ≡ shown_pair (vec_capacity places) (L.Theory.meaning left) (R.Theory.meaning right) }
         ensures empty { codes_of result ≡ [] }
-        ensures exact { pair_fits (vec_capacity places) (sizes_of (L.Theory.meaning left)) (sizes_of (R.Theory.meaning right)) ≡ true → PairExact (meaning_of L.Theory R.Theory result) (L.Theory.meaning left) (R.Theory.meaning right) }
+        ensures exact { pair_fits (vec_capacity places) (sizes_of (L.Theory.meaning left)) (sizes_of (R.Theory.meaning right)) ≡ true → PairExact (meaning_of result) (L.Theory.meaning left) (R.Theory.meaning right) }
     {
         let left = emptied(left);
         let right = emptied(right);
@@ -128,8 +116,6 @@ impl<L: Theory, R: Theory> Pair<L, R> {
 
     // Takes a pair apart: both theories as they are, each with its literals set.
     pub fn into_parts(self) -> (L, R)
-        requires { Together L.Theory R.Theory self }
-        ensures made { (L.Theory.made result.0) × (R.Theory.made result.1) }
         ensures left { result.0 ≡ self.left }
         ensures right { result.1 ≡ self.right }
     {
@@ -145,27 +131,22 @@ impl<L: Theory, R: Theory> Pair<L, R> {
 }
 
 impl<L: Theory, R: Theory> Theory for Pair<L, R> {
-    ghost made = { Together L.Theory R.Theory };
+    ghost use Rattle.pair.specs.Held.{codes_of, meaning_of, world_of, conflict_of, places_of};
+    ghost use Rattle.pair.specs.Worlds.{pair_lawful, together_worldly};
 
-    ghost meaning = { meaning_of L.Theory R.Theory };
+    ghost meaning = { meaning_of };
 
     ghost stack = { codes_of };
 
-    ghost given_world = { world_of L.Theory R.Theory };
+    ghost given_world = { world_of };
 
-    ghost given_conflict = { conflict_of L.Theory R.Theory };
+    ghost given_conflict = { conflict_of };
 
-    ghost lawful = { λ p t.
-        pair_lawful (L.Theory.meaning p.left) (R.Theory.meaning p.right)
-        (L.Theory.lawful p.left t.left_made) (R.Theory.lawful p.right t.right_made) (places_of p) };
+    ghost lawful = { λ p. pair_lawful (L.Theory.meaning p.left) (R.Theory.meaning p.right) (L.Theory.lawful p.left) (R.Theory.lawful p.right) (places_of p) };
 
-    ghost apart = { λ p t. t.apart };
+    ghost apart = { λ p. p.together.apart };
 
-    ghost worldly = { λ p t.
-        pair_worldly (L.Theory.meaning p.left) (R.Theory.meaning p.right) (places_of p) (codes_of p)
-        (L.Theory.given_world p.left) (R.Theory.given_world p.right) t.apart
-        (world_at (L.Theory.meaning p.left) (L.Theory.given_world p.left) t.left_stack (L.Theory.worldly p.left t.left_made))
-        (world_at (R.Theory.meaning p.right) (R.Theory.given_world p.right) t.right_stack (R.Theory.worldly p.right t.right_made)) };
+    ghost worldly = { λ p. together_worldly p.together (L.Theory.worldly p.left) (R.Theory.worldly p.right) };
 
     fn sizes(&self) -> Sizes {
         self.sizes

@@ -1,6 +1,6 @@
 -- The check keeps the counts of what it has read, and that is enough to follow the reading of the whole content.
-use Rattle.std.proofs.Common.{◌≡◌, ℕ, zero, suc, ◌+◌, ◌≤◌, List, length, drop, Some, None, Ok, Err, Result, sym, refl, ap, ◌∙◌, subst, arith, length-drop}
-use Rattle.std.proofs.lemmas.List.{length_push, drop-drop}
+use Rattle.std.proofs.Common.{◌≡◌, ℕ, zero, suc, ◌+◌, ◌≤◌, List, length, drop, Some, None, Ok, Err, Result, sym, refl, ap, ◌∙◌, arith, length-drop}
+use Rattle.std.proofs.lemmas.List.{length_push}
 use Rattle.refusals.specs.declared.Fault.{Fault}
 use Rattle.refusals.specs.declared.Refusal.{Refusal}
 use Rattle.refusals.specs.Grounds.{fault_at, located_at, and_then, map_ok}
@@ -11,7 +11,12 @@ use Rattle.question_file.specs.declared.check.Tag.{Tag}
 use Rattle.question_file.specs.declared.check.Tag.TheVariants as tag
 use Rattle.question_file.specs.Contents.{Contents, Reading, counts_of, counted, grown, allowed, in_turn, tag_of, read_field, count_field, read_more, count_more, read_next, read_from, checked, nothing}
 use Rattle.refusals.specs.declared.Refusal.TheVariants.{Torn}
-use Rattle.question_file.specs.Fields.{field_at, end, torn, field}
+use Rattle.question_file.specs.declared.fields.Field.{Field}
+use Rattle.question_file.specs.Fields.{Begins, field_at, end, torn, field}
+
+-- before the first field
+abbrev pub begun : Reading
+begun = record { before = None; contents = nothing }
 
 abbrev pub progress_of : Reading → Progress
 progress_of s = record { before = s.before; counts = counts_of s.contents }
@@ -68,26 +73,23 @@ module _ (k : ℕ) (room : Room) (s : Reading) (offset : ℕ) (bytes : List ℕ)
         ap (read_next onward room s offset) f
         ∙ ap (λ x. and_then (located_at offset x) (λ more. onward more (offset + (3 + length body)) behind)) r
 
--- What a check has counted up to an offset leads to what the whole file gives.
-pub record Leads (room : Room) (file : List ℕ) (p : Progress) (offset : ℕ) : Type 0 where
+-- What a check has counted before the bytes that are left leads to what the whole file gives.
+pub record Leads (room : Room) (file : List ℕ) (p : Progress) (offset : ℕ) (rest : List ℕ) : Type 0 where
   pub reading : Reading
   pub turns : ℕ
   pub counts : progress_of reading ≡ p
-  pub enough : length (drop offset file) ≤ turns
-  pub same : read_from (suc turns) room reading offset (drop offset file) ≡ checked room file
-  pub few : p.counts.clauses ≤ offset
+  pub enough : length rest ≤ turns
+  pub same : read_from (suc turns) room reading offset rest ≡ checked room file
+  pub few : p.counts.clauses + length rest ≤ length file
 
-abbrev pub start : Progress
-start = progress_of (record { before = None; contents = nothing })
-
-pub leads_start : (room : Room) (file : List ℕ) → Leads room file start 0
+pub leads_start : (room : Room) (file : List ℕ) → Leads room file (progress_of begun) 0 file
 leads_start room file =
     record {
-      reading = record { before = None; contents = nothing };
+      reading = begun;
       turns = length file;
       counts = refl;
       enough = omega arith;
-      same = ap (λ n. read_from n room (record { before = None; contents = nothing }) 0 file) (omega arith);
+      same = ap (λ n. read_from n room begun 0 file) (omega arith);
       few = omega arith;
     }
 
@@ -100,10 +102,7 @@ one_clause : (room : Room) (p : Progress) (n : ℕ) (body : List ℕ) → clause
 one_clause room p n body = go (in_turn p.before (tag_of n))
   where
     more : (t : Tag) → (counted p.counts t body).clauses ≤ p.counts.clauses + 1
-    more tag.Counts = omega arith
-    more tag.Difference = omega arith
-    more tag.Equality = omega arith
-    more tag.Clause = omega arith
+    more t = grind arith
 
     field_more : (t : Tag) (a : Result (Unit {0}) Refusal)
         → clauses_of (map_ok (λ counts. record { before = Some t; counts = counts }) (map_ok (λ _. counted p.counts t body) a))
@@ -118,72 +117,55 @@ one_clause room p n body = go (in_turn p.before (tag_of n))
     go (Err e) = omega arith
 
 -- a result that is known by its other value
-from_mapped_err : {T U E : Type 0} (f : T → U) (r : Result T E) (e : E) → map_ok f r ≡ Err e → r ≡ Err e
-from_mapped_err f (Ok x) e h = absurd (let z : ◌≡◌ {A = ℕ} 0 1 = cc in omega arith)
-from_mapped_err f (Err d) e h = cc
-
 pub from_mapped_ok : {T U E : Type 0} (f : T → U) (r : Result T E) (y : U) → map_ok f r ≡ Ok y → (x : T) × (r ≡ Ok x) × (f x ≡ y)
 from_mapped_ok f (Ok x) y h = (x, refl, cc)
-from_mapped_ok f (Err d) y h = absurd (let z : ◌≡◌ {A = ℕ} 0 1 = cc in omega arith)
+from_mapped_ok f (Err d) y h = cc
 
-from_located_err : {T : Type 0} (offset : ℕ) (r : Result T Refusal) (d : Fault) → Err d ≡ located_at offset r
-    → (e : Refusal) × (r ≡ Err e) × (d ≡ fault_at e offset)
-from_located_err offset (Ok x) d h = absurd (let z : ◌≡◌ {A = ℕ} 0 1 = cc in omega arith)
-from_located_err offset (Err e) d h = (e, refl, cc)
+-- The end of the file, a torn field, and a field more, as the reader hands them out.
+module _ {room : Room} {file : List ℕ} {p : Progress} {offset : ℕ} {rest : List ℕ} (l : Leads room file p offset rest) where
+  pub leads_end : Begins rest offset (Ok None) → ◌≡◌ {A = Result Counts Fault} (Ok p.counts) (map_ok counts_of (checked room file))
+  leads_end b =
+      ap (λ q. Ok q.counts) (sym l.counts) ∙ ap (map_ok counts_of) (sym (turn_end l.turns room l.reading offset rest b) ∙ l.same)
 
-from_located_ok : {T : Type 0} (offset : ℕ) (r : Result T Refusal) (x : T) → Ok x ≡ located_at offset r → r ≡ Ok x
-from_located_ok offset (Ok y) x h = cc
-from_located_ok offset (Err e) x h = absurd (let z : ◌≡◌ {A = ℕ} 0 1 = cc in omega arith)
+  pub leads_torn : (d : Fault) → Begins rest offset (Err d) → ◌≡◌ {A = Result Counts Fault} (Err d) (map_ok counts_of (checked room file))
+  leads_torn d b =
+      ap Err b.1 ∙ ap (map_ok counts_of) (sym (turn_torn l.turns room l.reading offset rest b.0) ∙ l.same)
 
-module _ {room : Room} {file : List ℕ} {p : Progress} {offset : ℕ} (l : Leads room file p offset) where
-  pub leads_end : field_at offset (drop offset file) ≡ end
-      → ◌≡◌ {A = Result Counts Fault} (Ok p.counts) (map_ok counts_of (checked room file))
-  leads_end e =
-      ap (λ q. Ok q.counts) (sym l.counts)
-      ∙ ap (map_ok counts_of) (sym (turn_end l.turns room l.reading offset (drop offset file) e) ∙ l.same)
+  module _ (f : Field) (b : Begins rest offset (Ok (Some f))) where
+    abbrev read : Result Reading Refusal
+    read = read_more room l.reading f.tag f.body.now
 
-  pub leads_torn : field_at offset (drop offset file) ≡ torn
-      → ◌≡◌ {A = Result Counts Fault} (Err (fault_at Torn offset)) (map_ok counts_of (checked room file))
-  leads_torn e = ap (map_ok counts_of) (sym (turn_torn l.turns room l.reading offset (drop offset file) e) ∙ l.same)
+    count_is : count_more room p f.tag f.body.now ≡ map_ok progress_of read
+    count_is = ap (λ q. count_more room q f.tag f.body.now) (sym l.counts) ∙ counts_follow room l.reading f.tag f.body.now
 
-  module _ {n : ℕ} {body behind : List ℕ} (f : field_at offset (drop offset file) ≡ field n body behind) where
-    follows_count : {r : Result Progress Refusal} → count_more room p n body ≡ r → map_ok progress_of (read_more room l.reading n body) ≡ r
-    follows_count h =
-        sym (counts_follow room l.reading n body) ∙ ap (λ q. count_more room q n body) l.counts ∙ h
+    counted_read : located_at f.offset (count_more room p f.tag f.body.now) ≡ located_at offset (map_ok progress_of read)
+    counted_read = λ i. located_at (b.0 i) (count_is i)
 
-    pub leads_refused : (d : Fault) → Err d ≡ located_at offset (count_more room p n body)
+    pub leads_refused : (d : Fault) → Err d ≡ located_at f.offset (count_more room p f.tag f.body.now)
         → ◌≡◌ {A = Result Counts Fault} (Err d) (map_ok counts_of (checked room file))
-    leads_refused d h =
-        let r = from_located_err offset (count_more room p n body) d h in
-        ap Err r.2
-        ∙ ap (map_ok counts_of)
-        (sym (turn_refused l.turns room l.reading offset (drop offset file) f r.0 (from_mapped_err progress_of _ r.0 (follows_count r.1)))
-        ∙ l.same)
-
-    pub leads_more : (q : Progress) → Ok q ≡ located_at offset (count_more room p n body)
-        → behind ≡ drop (3 + length body) (drop offset file) → 3 + length body ≤ length (drop offset file)
-        → Leads room file q (offset + (3 + length body))
-    leads_more q r₀ b h = go l.turns l.enough l.same
+    leads_refused d h = go read refl (h ∙ counted_read)
       where
-        r : count_more room p n body ≡ Ok q
-        r = from_located_ok offset (count_more room p n body) q r₀
+        go : (r : Result Reading Refusal) → read ≡ r → Err d ≡ located_at offset (map_ok progress_of r)
+            → ◌≡◌ {A = Result Counts Fault} (Err d) (map_ok counts_of (checked room file))
+        go (Ok x) k h = cc
+        go (Err e) k h = ap Err (cc) ∙ ap (map_ok counts_of) (sym (turn_refused l.turns room l.reading offset rest b.2 e k) ∙ l.same)
 
-        m : (x : Reading) × (read_more room l.reading n body ≡ Ok x) × (progress_of x ≡ q)
-        m = from_mapped_ok progress_of _ q (follows_count r)
-
-        go : (turns : ℕ) → length (drop offset file) ≤ turns
-            → read_from (suc turns) room l.reading offset (drop offset file) ≡ checked room file
-            → Leads room file q (offset + (3 + length body))
-        go zero enough same = absurd (omega arith)
-        go (suc turns) enough same =
+    pub leads_more : (q : Progress) → Ok q ≡ located_at f.offset (count_more room p f.tag f.body.now)
+        → Leads room file q (offset + (3 + length f.body.now)) (drop (3 + length f.body.now) rest)
+    leads_more q h = go read refl (h ∙ counted_read) l.turns l.enough l.same
+      where
+        go : (r : Result Reading Refusal) → read ≡ r → Ok q ≡ located_at offset (map_ok progress_of r)
+            → (turns : ℕ) → length rest ≤ turns → read_from (suc turns) room l.reading offset rest ≡ checked room file
+            → Leads room file q (offset + (3 + length f.body.now)) (drop (3 + length f.body.now) rest)
+        go (Err e) k h turns enough same = cc
+        go (Ok x) k h zero enough same = absurd (omega (arith, b.1))
+        go (Ok x) k h (suc turns) enough same =
+            let e : progress_of x ≡ q = cc in
             record {
-              reading = m.0;
+              reading = x;
               turns = turns;
-              counts = m.2;
-              enough = omega (arith, length-drop offset file, length-drop (offset + (3 + length body)) file);
-              same =
-                  subst (λ rest. read_from (suc turns) room m.0 (offset + (3 + length body)) rest ≡ checked room file)
-                  (b ∙ drop-drop (3 + length body) offset file)
-                  (sym (turn_more (suc turns) room l.reading offset (drop offset file) f m.0 m.1) ∙ same);
-              few = omega (arith, ap clauses_of r, one_clause room p n body, l.few);
+              counts = e;
+              enough = omega (arith, length-drop (3 + length f.body.now) rest, b.1);
+              same = sym (turn_more (suc turns) room l.reading offset rest b.2 x k) ∙ same;
+              few = omega (arith, ap (λ q. q.counts.clauses) e, ap clauses_of (count_is ∙ ap (map_ok progress_of) k), one_clause room p f.tag f.body.now, length-drop (3 + length f.body.now) rest, b.1, l.few);
             }

@@ -1,10 +1,7 @@
 -- What `field_at` says of bytes that are known by their places, as the reader meets them.
-use Rattle.std.proofs.Common.{◌≡◌, ℕ, ◌-◌, ◌≤◌, leb, List, [], ◌∷◌, length, get_or, take, drop, Option, Result, refl, subst, arith}
-use Rattle.std.proofs.lemmas.List.{take_rest}
+use Rattle.std.proofs.Common.{◌≡◌, ℕ, ◌≤◌, leb, List, [], ◌∷◌, length, get_or, take, drop, refl, arith}
 use Rattle.std.proofs.lemmas.Bool.{le-leb}
-use Rattle.refusals.specs.declared.Fault.{Fault}
-use Rattle.question_file.specs.declared.fields.Field.{Field}
-use Rattle.question_file.specs.Fields.{word, field_at, field, Begins}
+use Rattle.question_file.specs.Fields.{word, field_at, field}
 
 pub at_whole : (offset : ℕ) (xs : List ℕ) (n : ℕ) → 3 ≤ length xs → n ≡ word (get_or xs 1 0) (get_or xs 2 0)
     → n ≤ length (drop 3 xs)
@@ -15,8 +12,3 @@ at_whole offset (a ∷ b ∷ []) n s e l = absurd (omega arith)
 at_whole offset (a ∷ b ∷ d ∷ xs) n s e l =
     let h : leb (word b d) (length xs) ≡ _ = le-leb (word b d) (length xs) (omega arith) in
     rw (h, e) refl
-
--- `&file[offset..]` as the checker reads it
-pub from_rest : (file : List ℕ) (offset : ℕ) (r : Result (Option Field) Fault)
-    → Begins (take (length file - offset) (drop offset file)) offset r → Begins (drop offset file) offset r
-from_rest file offset r h = subst (λ xs. Begins xs offset r) (take_rest file offset) h

@@ -1,19 +1,19 @@
 -- Where the entries stand in a file that is accepted: each kind in fields of one size, one kind behind the other.
-use Rattle.std.proofs.Common.{◌≡◌, ℕ, suc, ◌+◌, ◌-◌, ◌*◌, ◌<◌, ◌≤◌, List, [], ◌∷◌, ◌++◌, length, take, drop, Ok, Result, sym, refl, ap, ◌∙◌, subst, suc-mul, arith, length-append}
+use Rattle.std.proofs.Common.{◌≡◌, ℕ, suc, ◌+◌, ◌*◌, ◌<◌, ◌≤◌, List, [], ◌∷◌, ◌++◌, length, take, drop, Ok, Result, sym, refl, ap, ◌∙◌, subst, suc-mul, arith, length-append, w8, Fits, get_or}
 use Rattle.std.specs.List.{flat_map, AllByRecursion}
-use Rattle.std.proofs.ByRecursion.{All-weaker}
-use Rattle.std.proofs.lemmas.List.{append_assoc, take_at, drop_at, drop-drop, take_rest}
+use Rattle.std.proofs.ByRecursion.{All-weaker, All-from_get_or}
+use Rattle.std.proofs.lemmas.List.{append_assoc, take_at, drop_at}
 use Rattle.refusals.specs.declared.Fault.{Fault}
 use Rattle.refusals.specs.Grounds.{map_ok}
 use Rattle.tables.specs.declared.DifferenceEntry.{DifferenceEntry}
 use Rattle.tables.specs.declared.EqualityEntry.{EqualityEntry}
-use Rattle.tables.specs.Entries.{most, DifferenceFits, EqualityFits}
+use Rattle.tables.specs.Entries.{DifferenceFits, EqualityFits}
 use Rattle.question_file.specs.declared.check.Counts.{Counts}
 use Rattle.question_file.specs.declared.check.Room.{Room}
 use Rattle.question_file.specs.Contents.{Contents, counts_of, checked, difference_of, equality_of}
 use Rattle.question_file.specs.Tables.{Long, entries, filled_from}
 use Rattle.question_file.specs.Writing.{field_bytes, difference_body, equality_body, clause_body, written, Within}
-use Rattle.question_file.proofs.Bodies.{difference_read, equality_read}
+use Rattle.question_file.proofs.Bodies.{Bytes, difference_read, equality_read}
 use Rattle.question_file.proofs.Counting.{from_mapped_ok}
 use Rattle.question_file.proofs.Law.{undoing_writing}
 
@@ -55,9 +55,8 @@ pub record Stands (file : List ℕ) (q : Contents) : Type 0 where
   pub differences_start : 9 ≤ length file
   pub differences_long : Long 8 (length q.differences) (drop 9 file)
   pub differences_read : entries 8 difference_of (length q.differences) (drop 9 file) ≡ q.differences
-  pub equalities_start : 9 + length q.differences * 11 ≤ length file
-  pub equalities_long : Long 4 (length q.equalities) (drop (9 + length q.differences * 11) file)
-  pub equalities_read : entries 4 equality_of (length q.equalities) (drop (9 + length q.differences * 11) file) ≡ q.equalities
+  pub equalities_long : Long 4 (length q.equalities) (drop (length q.differences * 11) (drop 9 file))
+  pub equalities_read : entries 4 equality_of (length q.equalities) (drop (length q.differences * 11) (drop 9 file)) ≡ q.equalities
 
 stands : (room : Room) (q : Contents) → Within room q → Stands (written q) q
 unfolding fields
@@ -67,10 +66,9 @@ stands room q w =
     let d : List ℕ = fields 2 8 difference_body (λ e. refl) ds in
     let e : List ℕ = fields 3 4 equality_body (λ e. refl) es in
     let c : List ℕ = flat_map (λ codes. field_bytes 4 (clause_body codes)) q.clauses in
-    let long-d : length d ≡ length ds * 11 = fields_length 2 8 difference_body (λ e. refl) ds in
     let from-d : d ++ (e ++ c) ≡ drop 9 (written q) = sym (append_assoc d e c) in
-    let from-e : e ++ c ≡ drop (9 + length ds * 11) (written q) =
-    sym (drop_at d (e ++ c) (length ds * 11) long-d) ∙ ap (drop (length ds * 11)) from-d ∙ drop-drop (length ds * 11) 9 (written q) in
+    let from-e : e ++ c ≡ drop (length ds * 11) (drop 9 (written q)) =
+    sym (drop_at d (e ++ c) (length ds * 11) (fields_length 2 8 difference_body (λ e. refl) ds)) ∙ ap (drop (length ds * 11)) from-d in
     record {
       differences_start = omega arith;
       differences_long = subst (Long 8 (length ds)) from-d (fields_long 2 8 difference_body (λ e. refl) ds (e ++ c));
@@ -78,7 +76,6 @@ stands room q w =
           ap (entries 8 difference_of (length ds)) (sym from-d)
           ∙ fields_read 2 8 difference_body (λ e. refl) difference_of ds (e ++ c)
           (All-weaker (DifferenceFits q.difference_variables) (λ x. difference_of (difference_body x) ≡ x) (difference_read q.difference_variables) ds w.differences_fit);
-      equalities_start = simp length-append (omega (arith, long-d));
       equalities_long = subst (Long 4 (length es)) from-e (fields_long 3 4 equality_body (λ e. refl) es c);
       equalities_read =
           ap (entries 4 equality_of (length es)) (sym from-e)
@@ -86,59 +83,43 @@ stands room q w =
           (All-weaker (EqualityFits q.equality_variables) (λ x. equality_of (equality_body x) ≡ x) (λ x _. equality_read x) es w.equalities_fit);
     }
 
--- the bytes of a file from a place on, as the checker reads `&file[n..]`
-abbrev from : ℕ → List ℕ → List ℕ
-from n file = take (length file - n) (drop n file)
+-- the bytes of a file, as the checker knows them
+pub bytes_of : (file : List ℕ) → ((i : ℕ) → Fits w8 (get_or file i 0)) → Bytes file
+bytes_of file f = All-from_get_or (λ b. b < 256) file 0 (λ i _. (f i).fits)
 
 -- what an accepted file holds, and where, by its counts
 pub record Accepted (room : Room) (file : List ℕ) (counts : Counts) : Type 0 where
-  pub contents : Contents
-  pub is : checked room file ≡ Ok contents
-  pub few : counts.difference_entries ≤ most
   pub difference_places : counts.difference_entries ≤ room.differences
   pub equality_places : counts.equality_entries ≤ room.equalities
   pub differences_start : 9 ≤ length file
-  pub differences_long : Long 8 counts.difference_entries (from 9 file)
+  pub differences_long : Long 8 counts.difference_entries (drop 9 file)
   pub differences_filled : (table : List DifferenceEntry)
-      → entries 8 difference_of counts.difference_entries (from 9 file) ++ drop counts.difference_entries table
+      → entries 8 difference_of counts.difference_entries (drop 9 file) ++ drop counts.difference_entries table
       ≡ filled_from (λ q. q.differences) (checked room file) table
-  pub equalities_start : 9 + counts.difference_entries * 11 ≤ length file
-  pub equalities_long : Long 4 counts.equality_entries (from (9 + counts.difference_entries * 11) file)
+  pub equalities_long : Long 4 counts.equality_entries (drop (counts.difference_entries * 11) (drop 9 file))
   pub equalities_filled : (table : List EqualityEntry)
-      → entries 4 equality_of counts.equality_entries (from (9 + counts.difference_entries * 11) file)
+      → entries 4 equality_of counts.equality_entries (drop (counts.difference_entries * 11) (drop 9 file))
       ++ drop counts.equality_entries table
       ≡ filled_from (λ q. q.equalities) (checked room file) table
 
-pub accepted : (room : Room) (file : List ℕ) (counts : Counts) → AllByRecursion (λ b. b < 256) file
+pub accepted : {room : Room} {file : List ℕ} {counts : Counts} → ((i : ℕ) → Fits w8 (get_or file i 0))
     → ◌≡◌ {A = Result Counts Fault} (Ok counts) (map_ok counts_of (checked room file)) → Accepted room file counts
-accepted room file counts b h = subst (Accepted room file) m.2 (go m.0 m.1)
+accepted {room} {file} {counts} f h = subst (Accepted room file) m.2 (go m.0 m.1)
   where
     m : (q : Contents) × (checked room file ≡ Ok q) × (counts_of q ≡ counts)
     m = from_mapped_ok counts_of (checked room file) counts (sym h)
 
     go : (q : Contents) → checked room file ≡ Ok q → Accepted room file (counts_of q)
     go q e =
-        let a = (undoing_writing room file b).accepted q e in
+        let a = (undoing_writing room file (bytes_of file f)).accepted q e in
         let w : Within room q = a.0 in
         let at : Stands file q = subst (λ f. Stands f q) a.1 (stands room q w) in
         record {
-          contents = q;
-          is = e;
-          few = omega (arith, w.atoms);
           difference_places = w.difference_places;
           equality_places = w.equality_places;
           differences_start = at.differences_start;
-          differences_long = subst (Long 8 (length q.differences)) (sym (take_rest file 9)) at.differences_long;
-          differences_filled = λ table.
-              ap (λ xs. entries 8 difference_of (length q.differences) xs ++ drop (length q.differences) table) (take_rest file 9)
-              ∙ ap (λ xs. xs ++ drop (length q.differences) table) at.differences_read
-              ∙ ap (λ r. filled_from (λ q. q.differences) r table) (sym e);
-          equalities_start = at.equalities_start;
-          equalities_long =
-              subst (Long 4 (length q.equalities)) (sym (take_rest file (9 + length q.differences * 11))) at.equalities_long;
-          equalities_filled = λ table.
-              ap (λ xs. entries 4 equality_of (length q.equalities) xs ++ drop (length q.equalities) table)
-              (take_rest file (9 + length q.differences * 11))
-              ∙ ap (λ xs. xs ++ drop (length q.equalities) table) at.equalities_read
-              ∙ ap (λ r. filled_from (λ q. q.equalities) r table) (sym e);
+          differences_long = at.differences_long;
+          differences_filled = λ table. rw (e, at.differences_read) refl;
+          equalities_long = at.equalities_long;
+          equalities_filled = λ table. rw (e, at.equalities_read) refl;
         }

@@ -57,10 +57,10 @@ pub record Spells (xs : List ℕ) (n : ℕ) (body behind : List ℕ) : Type 0 wh
 
 pub field_bytes_read : (offset : ℕ) (xs : List ℕ) (n : ℕ) (body behind : List ℕ) → Bytes xs
     → field_at offset xs ≡ field n body behind → Spells xs n body behind
-field_bytes_read zero [] n body behind b e = absurd (grind arith)
-field_bytes_read (suc offset) [] n body behind b e = absurd (grind arith)
-field_bytes_read offset (x ∷ []) n body behind b e = absurd (grind arith)
-field_bytes_read offset (x ∷ high ∷ []) n body behind b e = absurd (grind arith)
+field_bytes_read zero [] n body behind b e = cc
+field_bytes_read (suc offset) [] n body behind b e = cc
+field_bytes_read offset (x ∷ []) n body behind b e = cc
+field_bytes_read offset (x ∷ high ∷ []) n body behind b e = cc
 field_bytes_read offset (x ∷ high ∷ low ∷ rest) n body behind b e =
     record {
       whole = λ i. tag i ∷ high_is i ∷ low_is i ∷ rest_is i;
@@ -96,10 +96,7 @@ field_bytes_read offset (x ∷ high ∷ low ∷ rest) n body behind b e =
 -- The tag of a field, by its number.
 
 tag_of_number : (t : Tag) → tag_of (tag_number t) ≡ Some t
-tag_of_number tag.Counts = refl
-tag_of_number tag.Difference = refl
-tag_of_number tag.Equality = refl
-tag_of_number tag.Clause = refl
+tag_of_number t = grind arith
 
 number_of_tag : (n : ℕ) (t : Tag) → tag_of n ≡ Some t → tag_number t ≡ n
 number_of_tag n t e = grind (arith, nat_tests)
@@ -120,26 +117,20 @@ Fits room n tag.Equality body =
 Fits room n tag.Clause body = length body % 2 ≡ 0
 
 fits_from : (room : Room) (n : Counts) (t : Tag) (body : List ℕ) → allowed room n t body ≡ Ok tt → Fits room n t body
-fits_from room n tag.Counts body e = grind (arith, nat_tests)
-fits_from room n tag.Difference body e = grind (arith, nat_tests, ints)
-fits_from room n tag.Equality body e = grind (arith, nat_tests)
-fits_from room n tag.Clause body e = grind (arith, nat_tests)
+fits_from room n t body e = grind (arith, nat_tests, ints)
 
 allowed_from : (room : Room) (n : Counts) (t : Tag) (body : List ℕ) → Fits room n t body → allowed room n t body ≡ Ok tt
-allowed_from room n tag.Counts body f = grind (arith, nat_tests)
-allowed_from room n tag.Difference body f = grind (arith, nat_tests, ints)
-allowed_from room n tag.Equality body f = grind (arith, nat_tests)
-allowed_from room n tag.Clause body f = grind (arith, nat_tests)
+allowed_from room n t body f = grind (arith, nat_tests, ints)
 
 -- When a field is read, and what it is read as.
 
 from_then_ok : {T U E : Type 0} (r : Result T E) (next : T → Result U E) (y : U) → and_then r next ≡ Ok y
     → (x : T) × (r ≡ Ok x) × (next x ≡ Ok y)
 from_then_ok (Ok x) next y e = (x, refl, e)
-from_then_ok (Err d) next y e = absurd (grind arith)
+from_then_ok (Err d) next y e = cc
 
 from_turn : (before : Option Tag) (o : Option Tag) (t : Tag) → in_turn before o ≡ Ok t → (o ≡ Some t) × (follows before t ≡ true)
-from_turn before None t e = absurd (grind arith)
+from_turn before None t e = cc
 from_turn before (Some u) t e =
     let p = passed (follows before u) (Ok u) (Err Disordered) (Ok t) e (λ h. grind arith) in
     let same : u ≡ t = cc p.1 in

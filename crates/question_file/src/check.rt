@@ -1,26 +1,28 @@
 // The check of every field of a file, in turn.
-ghost use Rattle.std.specs.Prelude.{◌≡◌, ◌+◌, ◌^◌, ◌<◌, ◌++◌, length, if◌then◌else◌, Some, Ok, Err, codes, decimal, nat_eq};
-ghost use Rattle.refusals.specs.Grounds.{located_at, map_ok};
-ghost use Rattle.question_file.specs.declared.check.Tag.TheVariants.{Counts as CountsTag, Difference as DifferenceTag, Equality as EqualityTag, Clause as ClauseTag};
-ghost use Rattle.refusals.specs.declared.Refusal.TheVariants.{WrongLength};
-ghost use Rattle.question_file.specs.Contents.{tag_of, tag_number, follows, in_turn, difference_of, equality_of, atoms_fit, count_field, count_more, counts_of, checked};
+ghost use Rattle.std.specs.Prelude.{◌≡◌, ◌+◌, ◌^◌, ◌<◌, ◌++◌, ◌&&◌, length, cond, Some, Err, codes, decimal, nat_eq, nat_lt};
+ghost use Rattle.std.specs.Option.{ok_or};
+ghost use Rattle.refusals.specs.Grounds.{map_ok};
+ghost use Rattle.refusals.specs.declared.Refusal.TheVariants.{Disordered, WrongLength, TooMany};
+ghost use Rattle.question_file.specs.declared.check.Tag.TheVariants.{Counts as CountsTag};
+ghost use Rattle.question_file.specs.Contents.{tag_of, follows, in_turn, atoms_fit, count_field, count_more, counts_of, checked};
 
+use crate::entry::FieldEntry;
 use crate::fields::{Field, Reader};
 use refusals::{Fault, Refusal, located};
 use std::fmt;
 use tables::{DifferenceEntry, EqualityEntry, MOST};
 
-// The kinds of fields, by their tag bytes, in the order in which they stand in a file.
-#[derive(Clone, Copy, PartialEq, Eq, Debug)]
+// The kinds of fields, in the order in which they stand in a file.
+#[derive(Clone, Copy, PartialEq, Eq, PartialOrd, Ord, Debug)]
 pub enum Tag {
-    Counts = 1,
-    Difference = 2,
-    Equality = 3,
-    Clause = 4,
+    Counts,
+    Difference,
+    Equality,
+    Clause,
 }
 
 // What a file holds, counted.
-#[derive(Clone, Copy, PartialEq, Eq, Debug)]
+#[derive(Clone, Copy, PartialEq, Eq, Debug, Default)]
 pub struct Counts {
     pub difference_variables: usize,
     pub equality_variables: usize,
@@ -38,39 +40,37 @@ pub struct Room {
 }
 
 // How far a check has come.
-#[derive(Clone, Copy)]
+#[derive(Clone, Copy, Default)]
 struct Progress {
     // the tag of the field before
     before: Option<Tag>,
     counts: Counts,
 }
 
-impl Tag {
-    fn from_byte(byte: u8) -> Option<Tag>
-        ensures { result ≡ tag_of byte }
-    {
+impl TryFrom<u8> for Tag {
+    type Error = Refusal;
+
+    ghost try_from_gives = { λ byte tag. tag ≡ ok_or (tag_of byte) Disordered };
+
+    fn try_from(byte: u8) -> Result<Tag, Refusal> {
         match byte {
-            1 => Some(Tag::Counts),
-            2 => Some(Tag::Difference),
-            3 => Some(Tag::Equality),
-            4 => Some(Tag::Clause),
-            _ => None,
+            1 => Ok(Tag::Counts),
+            2 => Ok(Tag::Difference),
+            3 => Ok(Tag::Equality),
+            4 => Ok(Tag::Clause),
+            _ => Err(Refusal::Disordered),
         }
     }
+}
 
-    fn number(self) -> u8
-        ensures { result ≡ tag_number self }
-    {
-        self as u8
-    }
-
+impl Tag {
     // Whether this tag may come after the one before it, or as the first.
     fn may_follow(self, before: Option<Tag>) -> bool
         ensures { result ≡ follows before self }
     {
         match before {
-            None => self.number() == Tag::Counts as u8,
-            Some(before) => self.number() > Tag::Counts as u8 && self.number() >= before.number(),
+            None => self == Tag::Counts,
+            Some(before) => self > Tag::Counts && self >= before,
         }
     }
 
@@ -78,52 +78,15 @@ impl Tag {
     fn in_turn(byte: u8, before: Option<Tag>) -> Result<Tag, Refusal>
         ensures { result ≡ in_turn before (tag_of byte) }
     {
-        match Tag::from_byte(byte) {
-            Some(tag) if tag.may_follow(before) => Ok(tag),
-            _ => Err(Refusal::Disordered),
+        let tag = Tag::try_from(byte)?;
+        if !tag.may_follow(before) {
+            return Err(Refusal::Disordered);
         }
-    }
-}
-
-// The entry in the body of a difference field.
-pub(crate) fn difference_in(body: &[u8]) -> Result<DifferenceEntry, Refusal>
-    ensures { result ≡ (if nat_eq (length body.now) 8 then Ok (difference_of body.now) else Err WrongLength) }
-{
-    match body {
-        [a1, a0, b1, b0, k3, k2, k1, k0] => {
-            let a = u16::from_be_bytes([*a1, *a0]);
-            let b = u16::from_be_bytes([*b1, *b0]);
-            let limit = i32::from_be_bytes([*k3, *k2, *k1, *k0]);
-            Ok(DifferenceEntry { a, b, limit })
-        }
-        _ => Err(Refusal::WrongLength),
-    }
-}
-
-// The entry in the body of an equality field.
-pub(crate) fn equality_in(body: &[u8]) -> Result<EqualityEntry, Refusal>
-    ensures { result ≡ (if nat_eq (length body.now) 4 then Ok (equality_of body.now) else Err WrongLength) }
-{
-    match body {
-        [a1, a0, b1, b0] => {
-            let a = u16::from_be_bytes([*a1, *a0]);
-            let b = u16::from_be_bytes([*b1, *b0]);
-            Ok(EqualityEntry { a, b })
-        }
-        _ => Err(Refusal::WrongLength),
+        Ok(tag)
     }
 }
 
 impl Counts {
-    const NONE: Counts = Counts {
-        difference_variables: 0,
-        equality_variables: 0,
-        switches: 0,
-        difference_entries: 0,
-        equality_entries: 0,
-        clauses: 0,
-    };
-
     // Whether one atom more stays within the most that there may be. A switch is an atom.
     fn atoms_fit(&self) -> bool
         ensures { result ≡ atoms_fit self.now }
@@ -141,9 +104,9 @@ impl Counts {
         let [d1, d0, e1, e0, s1, s0] = body else {
             return Err(Refusal::WrongLength);
         };
-        let difference_variables = u16::from_be_bytes([*d1, *d0]) as usize;
-        let equality_variables = u16::from_be_bytes([*e1, *e0]) as usize;
-        let switches = u16::from_be_bytes([*s1, *s0]) as usize;
+        let difference_variables = usize::from(u16::from_be_bytes([*d1, *d0]));
+        let equality_variables = usize::from(u16::from_be_bytes([*e1, *e0]));
+        let switches = usize::from(u16::from_be_bytes([*s1, *s0]));
         if difference_variables + equality_variables + switches > MOST {
             return Err(Refusal::TooMany);
         }
@@ -151,50 +114,28 @@ impl Counts {
             difference_variables,
             equality_variables,
             switches,
-            ..Counts::NONE
+            ..Counts::default()
         })
     }
 
-    fn with_difference(self, body: &[u8], room: Room) -> Result<Counts, Refusal>
-        ensures { result ≡ count_field room self DifferenceTag body.now }
+    // How many entries a table has with one more, over so many variables and with so many places.
+    fn one_more<E: FieldEntry>(
+        &self,
+        body: &[u8],
+        variables: usize,
+        entries: usize,
+        places: usize,
+    ) -> Result<usize, Refusal>
+        ensures { result ≡ map_ok (λ _. entries + 1) (cond (nat_eq (length body.now) E.BODY_LEN) (cond (atoms_fit self.now && nat_lt entries places) (E.checked variables (E.said body.now)) (Err TooMany)) (Err WrongLength)) }
     {
-        let entry = difference_in(body)?;
-        if !self.atoms_fit() || self.difference_entries >= room.differences {
+        let entry = E::from_body(body)?;
+        if !self.atoms_fit() || entries >= places {
             return Err(Refusal::TooMany);
         }
-        entry.check(self.difference_variables)?;
-        Ok(Counts {
-            difference_entries: self.difference_entries + 1,
-            ..self
-        })
+        entry.check(variables)?;
+        Ok(entries + 1)
     }
 
-    fn with_equality(self, body: &[u8], room: Room) -> Result<Counts, Refusal>
-        ensures { result ≡ count_field room self EqualityTag body.now }
-    {
-        let entry = equality_in(body)?;
-        if !self.atoms_fit() || self.equality_entries >= room.equalities {
-            return Err(Refusal::TooMany);
-        }
-        entry.check(self.equality_variables)?;
-        Ok(Counts {
-            equality_entries: self.equality_entries + 1,
-            ..self
-        })
-    }
-
-    fn with_clause(self, body: &[u8]) -> Result<Counts, Refusal>
-        requires { self.clauses + 1 < 2 ^ 64 }
-        ensures { (room : Room) → result ≡ count_field room self ClauseTag body.now }
-    {
-        if body.len() % 2 != 0 {
-            return Err(Refusal::WrongLength);
-        }
-        Ok(Counts {
-            clauses: self.clauses + 1,
-            ..self
-        })
-    }
     // These counts with one field more.
     fn with_field(self, tag: Tag, body: &[u8], room: Room) -> Result<Counts, Refusal>
         requires { self.clauses + 1 < 2 ^ 64 }
@@ -202,21 +143,47 @@ impl Counts {
     {
         match tag {
             Tag::Counts => Counts::from_body(body),
-            Tag::Difference => self.with_difference(body, room),
-            Tag::Equality => self.with_equality(body, room),
-            Tag::Clause => self.with_clause(body),
+            Tag::Difference => {
+                let difference_entries = self.one_more::<DifferenceEntry>(
+                    body,
+                    self.difference_variables,
+                    self.difference_entries,
+                    room.differences,
+                )?;
+                Ok(Counts {
+                    difference_entries,
+                    ..self
+                })
+            }
+            Tag::Equality => {
+                let equality_entries = self.one_more::<EqualityEntry>(
+                    body,
+                    self.equality_variables,
+                    self.equality_entries,
+                    room.equalities,
+                )?;
+                Ok(Counts {
+                    equality_entries,
+                    ..self
+                })
+            }
+            Tag::Clause if body.len() % 2 == 0 => Ok(Counts {
+                clauses: self.clauses + 1,
+                ..self
+            }),
+            Tag::Clause => Err(Refusal::WrongLength),
         }
     }
 }
 
 impl Progress {
     // One field more.
-    fn read(self, field: Field<'_>, room: Room) -> Result<Progress, Fault>
+    fn read(self, field: Field<'_>, room: Room) -> Result<Progress, Refusal>
         requires { self.counts.clauses + 1 < 2 ^ 64 }
-        ensures { result ≡ located_at field.entry.offset (count_more room self field.entry.tag field.entry.body.now) }
+        ensures { result ≡ count_more room self field.entry.tag field.entry.body.now }
     {
-        let tag = located(Tag::in_turn(field.tag, self.before), field.offset)?;
-        let counts = located(self.counts.with_field(tag, field.body, room), field.offset)?;
+        let tag = Tag::in_turn(field.tag, self.before)?;
+        let counts = self.counts.with_field(tag, field.body, room)?;
         Ok(Progress {
             before: Some(tag),
             counts,
@@ -229,12 +196,9 @@ pub fn check(file: &[u8], room: Room) -> Result<Counts, Fault>
     ensures { result ≡ map_ok counts_of (checked room file.now) }
 {
     let mut reader = Reader::new(file);
-    let mut progress = Progress {
-        before: None,
-        counts: Counts::NONE,
-    };
+    let mut progress = Progress::default();
     while let Some(field) = reader.next_field()? {
-        progress = progress.read(field, room)?;
+        progress = located(progress.read(field, room), field.offset)?;
     }
     Ok(progress.counts)
 }

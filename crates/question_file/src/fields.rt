@@ -39,13 +39,11 @@ impl<'a> Reader<'a> {
         ensures found { Begins (drop self.old.offset self.old.file.now) self.old.offset result }
         ensures moves { self.new.offset ≡ self.old.offset + size result }
     {
-        match first_field(&self.file[self.offset..], self.offset)? {
-            Some(field) => {
-                self.offset += HEAD + field.body.len();
-                Ok(Some(field))
-            }
-            None => Ok(None),
+        let found = first_field(&self.file[self.offset..], self.offset)?;
+        if let Some(field) = found {
+            self.offset += HEAD + field.body.len();
         }
+        Ok(found)
     }
 }
 
@@ -55,7 +53,7 @@ fn first_field<'a>(rest: &'a [u8], offset: usize) -> Result<Option<Field<'a>>, F
 {
     match rest {
         [tag, high, low, remainder @ ..] => {
-            let length = u16::from_be_bytes([*high, *low]) as usize;
+            let length = usize::from(u16::from_be_bytes([*high, *low]));
             if length > remainder.len() {
                 return Err(Refusal::Torn.at(offset));
             }

@@ -2,5 +2,6 @@
 #![tactic(auto)]
 
 pub mod check;
+mod entry;
 pub mod fields;
 pub mod load;

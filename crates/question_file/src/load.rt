@@ -1,80 +1,36 @@
 // The loader: a checked file's entries, written into the fronts of the two tables.
-ghost use Rattle.std.specs.Prelude.{◌≡◌, ℕ, ◌≤◌, List, ◌++◌, length, drop, if◌then◌else◌, Ok, Err, nat_eq};
+ghost use Rattle.std.specs.Prelude.{◌≡◌, ◌+◌, ◌*◌, length, drop};
 ghost use Rattle.refusals.specs.Grounds.{map_ok};
-ghost use Rattle.refusals.specs.declared.Refusal.TheVariants.{WrongLength};
-ghost use Rattle.question_file.specs.Contents.{difference_of, equality_of, counts_of, checked};
+ghost use Rattle.question_file.specs.Contents.{counts_of, checked};
 ghost use Rattle.question_file.specs.Tables.{Long, entries, room_of, filled_from};
 ghost use Rattle.question_file.specs.Writing.{UndoesWriting};
 
-use crate::check::{Counts, Room, check, difference_in, equality_in};
+use crate::check::{Counts, Room, check};
+use crate::entry::FieldEntry;
 use crate::fields::HEAD;
-use refusals::{Fault, Refusal};
+use refusals::Fault;
 use tables::{DifferenceEntry, EqualityEntry};
 
-// The bytes of a counts field, which a file begins with, and of a difference field.
-const COUNTS_FIELD: usize = 9;
+// The bytes of the counts field, which a file begins with.
+const COUNTS_FIELD: usize = HEAD + 6;
 
-const DIFFERENCE_FIELD: usize = 11;
-
-// An entry of a table, which stands in a file as the body of a field.
-trait Entry: Sized {
-    // the length of the body
-    ghost size: { ℕ };
-
-    // what a body of that length says
-    ghost said: { List ℕ → Self };
-
-    fn body_len() -> usize
-        ensures { result ≡ size };
-
-    fn from_body(body: &[u8]) -> Result<Self, Refusal>
-        ensures { result ≡ (if nat_eq (length body.now) size then Ok (said body.now) else Err WrongLength) };
-}
-
-impl Entry for DifferenceEntry {
-    ghost size = { 8 };
-
-    ghost said = { difference_of };
-
-    fn body_len() -> usize {
-        8
-    }
-
-    fn from_body(body: &[u8]) -> Result<DifferenceEntry, Refusal> {
-        difference_in(body)
-    }
-}
-
-impl Entry for EqualityEntry {
-    ghost size = { 4 };
-
-    ghost said = { equality_of };
-
-    fn body_len() -> usize {
-        4
-    }
-
-    fn from_body(body: &[u8]) -> Result<EqualityEntry, Refusal> {
-        equality_in(body)
-    }
-}
-
-// Writes the entries of the first `count` fields into the front of the table.
-fn fill<E: Entry + Copy>(fields: &[u8], count: usize, table: &mut [E])
-    requires long { Long E.Entry.size count fields.now }
-    requires places { count ≤ length table.old }
-    ensures { table.new ≡ entries E.Entry.size E.Entry.said count fields.now ++ drop count table.old }
+// Writes an entry into each place, from fields that stand one behind the other, and returns the bytes behind them.
+fn fill<'a, E: FieldEntry>(fields: &'a [u8], places: &mut [E]) -> &'a [u8]
+    requires { Long E.BODY_LEN (length places.old) fields.now }
+    ensures written { places.new ≡ entries E.BODY_LEN E.said (length places.old) fields.now }
+    ensures behind { result.now ≡ drop (length places.old * (3 + E.BODY_LEN)) fields.now }
 {
     let mut rest = fields;
-    for i in 0..count {
+    for place in places.iter_mut() {
         let (_, field) = rest.split_at(HEAD);
-        let (body, behind) = field.split_at(E::body_len());
+        let (body, behind) = field.split_at(E::BODY_LEN);
         let Ok(entry) = E::from_body(body) else {
             unreachable();
         };
-        table[i] = entry;
+        *place = entry;
         rest = behind;
     }
+    rest
 }
 
 // Checks every field of a file, then writes its entries into the fronts of the tables. A refused file changes no table.
@@ -93,12 +49,8 @@ pub fn load(
         equalities: equalities.len(),
     };
     let counts = check(file, room)?;
-    fill(
-        &file[COUNTS_FIELD..],
-        counts.difference_entries,
-        differences,
-    );
-    let behind = COUNTS_FIELD + counts.difference_entries * DIFFERENCE_FIELD;
-    fill(&file[behind..], counts.equality_entries, equalities);
+    let fields = &file[COUNTS_FIELD..];
+    let behind = fill(fields, &mut differences[..counts.difference_entries]);
+    fill(behind, &mut equalities[..counts.equality_entries]);
     Ok(counts)
 }

@@ -83,9 +83,9 @@ impl Refusal {
     pub fn layer(&self) -> Layer
         ensures { result ≡ layer_of self.now }
     {
-        match self.number() {
-            1..=3 => Layer::Field,
-            4..=6 => Layer::Table,
+        match self {
+            Refusal::Torn | Refusal::Disordered | Refusal::WrongLength => Layer::Field,
+            Refusal::TooMany | Refusal::NoSuchVariable | Refusal::LimitOutOfRange => Layer::Table,
             _ => Layer::Question,
         }
     }
@@ -94,10 +94,9 @@ impl Refusal {
     pub fn at(self, offset: usize) -> Fault
         ensures { result ≡ fault_at self offset }
     {
-        let layer = self.layer();
         Fault {
             refusal: self,
-            layer,
+            layer: self.layer(),
             offset,
         }
     }
@@ -107,18 +106,13 @@ impl Refusal {
 pub fn located<T>(res: Result<T, Refusal>, offset: usize) -> Result<T, Fault>
     ensures { result ≡ located_at offset res }
 {
-    match res {
-        Ok(value) => Ok(value),
-        Err(refusal) => Err(refusal.at(offset)),
-    }
+    res.map_err(|refusal| refusal.at(offset))
 }
 
 impl fmt::Display for Fault {
     ghost output = { λ f. Some (codes "refused " ++ (decimal (number_of f.refusal) ++ (codes " " ++ decimal f.offset))) };
 
     fn fmt<W: fmt::Write>(&self, f: &mut fmt::Formatter<W>) -> fmt::Result {
-        let number = self.refusal.number();
-        let offset = self.offset;
-        write!(f, "refused {number} {offset}")
+        write!(f, "refused {} {}", self.refusal.number(), self.offset)
     }
 }

@@ -63,15 +63,11 @@ pub fn relax(limits: &[Limit], times: &mut [i64]) -> bool
     ensures latest { MatchBool result (Latest limits.now times.new) (NoTimes limits.now (length times.old)) }
     ensures after { MatchBool result (times.new ≡ latest limits.now (length times.old)) (times.new ≡ pass limits.now (latest limits.now (length times.old))) }
 {
-    for time in times.iter_mut() {
-        *time = 0;
-    }
-    let mut done = 0;
-    while relax_pass(limits, times) {
-        done += 1;
-        if done >= times.len() {
-            return false;
+    times.fill(0);
+    for _ in 0..times.len().max(1) {
+        if !relax_pass(limits, times) {
+            return true;
         }
     }
-    true
+    false
 }

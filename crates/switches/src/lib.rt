@@ -8,27 +8,13 @@ ghost use Rattle.switches.specs.Worlds.{world_of_stack};
 ghost use Rattle.std.proofs.Common.{rules};
 
 use refusals::Refusal;
-use theory::stack::{Record, Stack};
-use theory::{Sizes, Theory};
-
-// A set switch literal.
-#[derive(Clone, Copy, PartialEq, Eq, Debug)]
-pub struct Setting {
-    pub code: u16,
-}
-
-impl Record for Setting {
-    ghost coded = { λ s. s.code };
-
-    fn code(&self) -> u16 {
-        self.code
-    }
-}
+use theory::stack::{Literal, Stack};
+use theory::{MOST, Sizes, Theory};
 
 #[derive(Drop)]
 pub struct Switches {
     count: usize,
-    stack: Stack<Setting>,
+    stack: Stack<Literal>,
     ghost few: { count ≤ 512 },
     ghost places: { count ≤ vec_capacity stack.records },
     ghost apart: { different count (map (λ s. s.code) stack.records.items) ≡ true },
@@ -37,12 +23,12 @@ pub struct Switches {
 impl Switches {
     // So many switches, with an empty stack over the places handed in. Too many switches, or more than there are places,
     // show as none.
-    pub fn new(count: usize, places: Vec<Setting>) -> Self
+    pub fn new(count: usize, places: Vec<Literal>) -> Self
         ensures shown { result.count ≡ shown_switches count (vec_capacity places) }
         ensures empty { result.stack.records.items ≡ [] }
     {
         let stack = Stack::new(places);
-        let shown = if count <= 512 && count <= stack.places() {
+        let shown = if count <= MOST && count <= stack.places() {
             count
         } else {
             0
@@ -55,8 +41,6 @@ impl Switches {
 }
 
 impl Theory for Switches {
-    ghost made = { λ _. Unit {0} };
-
     ghost meaning = { λ t. switch_meaning t.count };
 
     ghost stack = { λ t. map (λ s. s.code) t.stack.records.items };
@@ -68,9 +52,9 @@ impl Theory for Switches {
 
     ghost lawful = { Prim.search rules };
 
-    ghost apart = { λ t _. t.apart };
+    ghost apart = { λ t. t.apart };
 
-    ghost worldly = { λ t _. world_of_stack t.count (map (λ s. s.code) t.stack.records.items) t.apart };
+    ghost worldly = { λ t. world_of_stack t.count (map (λ s. s.code) t.stack.records.items) t.apart };
 
     fn sizes(&self) -> Sizes {
         Sizes {
@@ -81,7 +65,7 @@ impl Theory for Switches {
 
     fn set(&mut self, code: u16, conflict: &mut [u16]) -> Result<(), Refusal> {
         self.stack.check(self.count, code, conflict.len())?;
-        self.stack.push(Setting { code });
+        self.stack.push(Literal { code });
         Ok(())
     }
 
@@ -93,8 +77,12 @@ impl Theory for Switches {
         if list.len() < self.count {
             return Err(Refusal::WorldListShort);
         }
-        for i in 0..self.count {
-            list[i] = if self.stack.has_code(2 * i) { 1 } else { 0 };
+        for (switch, number) in list[..self.count].iter_mut().enumerate() {
+            *number = if self.stack.has_code(2 * switch) {
+                1
+            } else {
+                0
+            };
         }
         Ok(())
     }

@@ -1,5 +1,6 @@
 -- Which entries a table takes, in the order in which the grounds are looked at.
-use Rattle.std.specs.Prelude.{ℕ, ◌<◌, Bool, true, cond, ◌&&◌, List, [], ◌∷◌, length, ℤ, pos, negsuc, ◌≤ℤ◌, is_ok, Ok, Err, Result, int_le, nat_le, nat_lt}
+use Rattle.std.specs.Prelude.{ℕ, ◌<◌, Bool, cond, ◌&&◌, List, length, ℤ, pos, negsuc, ◌≤ℤ◌, is_ok, Ok, Err, Result, int_le, nat_le, nat_lt}
+use Rattle.std.specs.List.{list_all}
 use Rattle.refusals.specs.Grounds.{and_then}
 use Rattle.refusals.specs.declared.Refusal.{Refusal}
 use Rattle.refusals.specs.declared.Refusal.TheVariants.{NoSuchVariable, LimitOutOfRange}
@@ -40,8 +41,7 @@ pub record EqualityFits (variables : ℕ) (e : EqualityEntry) : Type 0 where
 
 -- whether a table over so many variables takes every entry
 abbrev pub all_fit : {E : Type 0} → (E → Bool) → List E → Bool
-all_fit fits [] = true
-all_fit fits (e ∷ es) = fits e && all_fit fits es
+all_fit fits es = list_all fits es
 
 -- whether a table is taken: not too many variables, not too many entries, and each entry fits
 abbrev pub all_entries_fit : {E : Type 0} → (ℕ → E → Bool) → ℕ → List E → Bool

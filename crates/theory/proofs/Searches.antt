@@ -1,7 +1,7 @@
 -- A search through records for a code.
-use Rattle.std.proofs.Common.{◌≡◌, ℕ, Bool, ◌||◌, List, [], ◌∷◌, map, refl, ap, ◌==◌, ◌/◌}
+use Rattle.std.proofs.Common.{◌≡◌, ℕ, ◌||◌, List, [], ◌∷◌, map, refl, ap, ◌==◌, ◌/◌}
 use Rattle.std.specs.List.{list_any}
-use Rattle.theory.specs.Meaning.{atom_of, has, names}
+use Rattle.theory.specs.Meaning.{has, names}
 
 module _ {R : Type 0} (coded : R → ℕ) where
   pub any_names : (atom : ℕ) (xs : List R) → list_any (λ x. coded x / 2 == atom) xs ≡ names (map coded xs) atom

@@ -1,15 +1,12 @@
 // Tables of steps: what a test asks of a theory through the interface, and what it should answer.
 #![tactic(auto)]
 
-ghost use Rattle.std.specs.Prelude.{ℕ};
-
 use difference::Difference;
 use equality::Equality;
-use joining::Join;
 use refusals::Refusal;
-use relaxing::Limit;
 use std::alloc::{AllocError, Global};
-use switches::{Setting, Switches};
+use switches::Switches;
+use table_theory::{Procedure, TableTheory};
 use tables::{DifferenceEntry, EqualityEntry};
 use theory::{Sizes, Theory};
 
@@ -55,15 +52,10 @@ impl From<AllocError> for Unexpected {
 
 // Whether the list has the front, whole, and the spare entry everywhere behind it.
 fn fronted<X: Copy + PartialEq>(list: &[X], front: &[X], spare: X) -> bool {
-    if front.len() > list.len() {
-        return false;
+    match list.split_at_checked(front.len()) {
+        Some((begin, behind)) => begin == front && behind.iter().all(|entry| *entry == spare),
+        None => false,
     }
-    for (i, entry) in list.iter().enumerate() {
-        if *entry != front.get(i).copied().unwrap_or(spare) {
-            return false;
-        }
-    }
-    true
 }
 
 fn set<T: Theory>(
@@ -73,10 +65,7 @@ fn set<T: Theory>(
     places: usize,
     expected: Result<(), Refusal>,
     conflict: &[u16],
-) -> Result<bool, AllocError>
-    requires { T.Theory.made theory.old }
-    ensures { T.Theory.made theory.new }
-{
+) -> Result<bool, AllocError> {
     let mut list = vec![in heap; SPARE_CODE; places]?;
     let answer = theory.set(code, list.as_mut_slice());
     Ok(answer == expected && fronted(list.as_slice(), conflict, SPARE_CODE))
@@ -88,19 +77,14 @@ fn world<T: Theory>(
     places: usize,
     expected: Result<(), Refusal>,
     numbers: &[i64],
-) -> Result<bool, AllocError>
-    requires { T.Theory.made theory.now }
-{
+) -> Result<bool, AllocError> {
     let mut list = vec![in heap; SPARE_NUMBER; places]?;
     let answer = theory.world(list.as_mut_slice());
     Ok(answer == expected && fronted(list.as_slice(), numbers, SPARE_NUMBER))
 }
 
 // Whether the step is answered as it should be.
-fn perform<T: Theory>(heap: Global, theory: &mut T, step: &Step) -> Result<bool, AllocError>
-    requires { T.Theory.made theory.old }
-    ensures { T.Theory.made theory.new }
-{
+fn perform<T: Theory>(heap: Global, theory: &mut T, step: &Step) -> Result<bool, AllocError> {
     match step {
         Step::Set(code) => set(heap, theory, *code, PLACES, Ok(()), &[]),
         Step::Clash(code, conflict) => set(
@@ -133,16 +117,30 @@ fn perform<T: Theory>(heap: Global, theory: &mut T, step: &Step) -> Result<bool,
 }
 
 // Asks all of it, in turn, up to the first step that is answered otherwise.
-pub fn run<T: Theory>(heap: Global, theory: &mut T, steps: &[Step]) -> Result<(), Unexpected>
-    requires { T.Theory.made theory.old }
-    ensures { T.Theory.made theory.new }
-{
+pub fn run<T: Theory>(heap: Global, theory: &mut T, steps: &[Step]) -> Result<(), Unexpected> {
     for (number, step) in steps.iter().enumerate() {
         if !perform(heap, theory, step)? {
             return Err(Unexpected::Step(number));
         }
     }
     Ok(())
+}
+
+// A theory over the entries of the rows, with so many places for its stack.
+fn over<S: Procedure, X: Copy, F: Fn(X) -> S::Entry>(
+    heap: Global,
+    variables: usize,
+    rows: &[X],
+    entry: F,
+    places: usize,
+) -> Result<TableTheory<S>, AllocError>
+    requires { F.IsAlwaysCallable entry }
+{
+    let mut table = Vec::new(heap);
+    for row in rows {
+        table.push(entry(*row))?;
+    }
+    Ok(TableTheory::new(variables, table, Vec::with_capacity(heap, places)?))
 }
 
 // A difference theory over the table, with so many places for its stack.
@@ -152,19 +150,13 @@ pub fn difference(
     table: &[(u16, u16, i32)],
     places: usize,
 ) -> Result<Difference, AllocError> {
-    let mut entries = Vec::new(heap);
-    for (a, b, limit) in table {
-        entries.push(DifferenceEntry {
-            a: *a,
-            b: *b,
-            limit: *limit,
-        })?;
-    }
-    Ok(Difference::new(
+    over(
+        heap,
         variables,
-        entries,
-        Vec::<Limit>::with_capacity(heap, places)?,
-    ))
+        table,
+        |(a, b, limit)| DifferenceEntry { a, b, limit },
+        places,
+    )
 }
 
 // An equality theory over the table, with so many places for its stack.
@@ -174,18 +166,16 @@ pub fn equality(
     table: &[(u16, u16)],
     places: usize,
 ) -> Result<Equality, AllocError> {
-    let mut entries = Vec::new(heap);
-    for (a, b) in table {
-        entries.push(EqualityEntry { a: *a, b: *b })?;
-    }
-    Ok(Equality::new(
+    over(
+        heap,
         variables,
-        entries,
-        Vec::<Join>::with_capacity(heap, places)?,
-    ))
+        table,
+        |(a, b)| EqualityEntry { a, b },
+        places,
+    )
 }
 
 // So many switches, with so many places for the stack.
 pub fn switches(heap: Global, count: usize, places: usize) -> Result<Switches, AllocError> {
-    Ok(Switches::new(count, Vec::<Setting>::with_capacity(heap, places)?))
+    Ok(Switches::new(count, Vec::with_capacity(heap, places)?))
 }

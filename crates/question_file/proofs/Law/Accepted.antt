@@ -3,7 +3,6 @@ use Rattle.std.proofs.Common.{◌≡◌, ℕ, zero, suc, ◌+◌, ◌<◌, ◌�
 use Rattle.std.specs.List.{flat_map}
 use Rattle.std.proofs.ByRecursion.{All-push}
 use Rattle.std.proofs.lemmas.List.{append-nil, append_assoc, flat_map_more, length-append, length_push}
-use Rattle.std.proofs.lemmas.Bool.{false≢true}
 use Rattle.std.proofs.lemmas.Bool.Decides.{nat_tests}
 use Rattle.refusals.specs.declared.Refusal.{Refusal}
 use Rattle.question_file.specs.declared.check.Room.{Room}
@@ -149,10 +148,10 @@ module _ (room : Room) (body : List ℕ) (bytes : Bytes body) (short : length bo
       → Writes room (done ++ field_bytes (tag_number t) body) t (grown c t body)
   writes_more c done offset None tag.Counts h e f =
       subst (λ front. Writes room (front ++ field_bytes 1 body) tag.Counts (grown c tag.Counts body)) (sym h.0) (writes_counts c f)
-  writes_more c done offset None tag.Difference h e f = absurd (false≢true e)
-  writes_more c done offset None tag.Equality h e f = absurd (false≢true e)
-  writes_more c done offset None tag.Clause h e f = absurd (false≢true e)
-  writes_more c done offset (Some t₀) tag.Counts h e f = absurd (false≢true e)
+  writes_more c done offset None tag.Difference h e f = cc
+  writes_more c done offset None tag.Equality h e f = cc
+  writes_more c done offset None tag.Clause h e f = cc
+  writes_more c done offset (Some t₀) tag.Counts h e f = cc
   writes_more c done offset (Some t₀) tag.Difference h e f =
       writes_difference c done t₀ h (follows_after t₀ tag.Difference e).1 f
   writes_more c done offset (Some t₀) tag.Equality h e f =
@@ -160,10 +159,10 @@ module _ (room : Room) (body : List ℕ) (bytes : Bytes body) (short : length bo
   writes_more c done offset (Some t₀) tag.Clause h e f = writes_clause c done t₀ h f
 
 at_end : (offset : ℕ) (xs : List ℕ) → field_at offset xs ≡ end → (xs ≡ []) × (0 < offset)
-at_end zero [] e = absurd (grind arith)
+at_end zero [] e = cc
 at_end (suc offset) [] e = (refl, omega arith)
-at_end offset (x ∷ []) e = absurd (grind arith)
-at_end offset (x ∷ high ∷ []) e = absurd (grind arith)
+at_end offset (x ∷ []) e = cc
+at_end offset (x ∷ high ∷ []) e = cc
 at_end offset (x ∷ high ∷ low ∷ rest) e = absurd (grind (arith, nat_tests))
 
 -- a whole file, from any of its fields on

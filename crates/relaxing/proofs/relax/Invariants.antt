@@ -1,13 +1,9 @@
-use Rattle.std.proofs.Common.{◌≡◌, ◌-◌, ◌≤◌, length, take, replicate, pos}
-use Rattle.relaxing.specs.Limits.{passes}
+use Rattle.std.proofs.Common.{◌≡◌, ℕ, ◌+◌, true, length, replicate, pos}
+use Rattle.relaxing.specs.Limits.{moves, passes}
 use Rattle.relaxing.proofs.relax.Given as goal
 
-abbrev pub invariant-loop-time : goal.invariant-loop-time
-invariant-loop-time l = take l.time-index l.times ≡ replicate l.time-index (pos 0)
-
-abbrev pub invariant-loop-done : goal.invariant-loop-done
-invariant-loop-done l =
-    (l.times ≡ passes l.done l.limits (replicate (length l.initial.times) (pos 0))) × (l.done ≤ length l.initial.times - 1)
-
-abbrev pub decreases-loop-done : goal.decreases-loop-done
-decreases-loop-done l = length l.initial.times - l.done
+-- the passes that were made, each of which changed a time
+abbrev pub invariant-loop : goal.invariant-loop
+invariant-loop l =
+    (l.times ≡ passes l.counter l.limits (replicate (length l.initial.times) (pos 0)))
+    × ((k : ℕ) → l.counter ≡ k + 1 → moves l.limits (passes k l.limits (replicate (length l.initial.times) (pos 0))) ≡ true)

@@ -1,5 +1,6 @@
+use Rattle.std.proofs.Common.{length}
 use Rattle.question_file.proofs.Filling.{Filling}
 use Rattle.question_file.proofs.load.fill.Given as goal
 
-abbrev pub invariant-loop-i : goal.invariant-loop-i
-invariant-loop-i g l = Filling g.E.Entry.size g.E.Entry.said l.count l.fields l.initial.table l.i l.rest l.table
+abbrev pub invariant-loop-place : goal.invariant-loop-place
+invariant-loop-place g l = Filling g.E.FieldEntry.BODY_LEN g.E.FieldEntry.said (length l.fn.places) l.fields l.place-index l.rest l.places

@@ -16,7 +16,6 @@ pub returns : goal.returns
 returns c =
     let before = vec_items c.args.self.now.stack.records in
     record {
-      kept = tt;
       same = refl;
       answer = c.retreat.ensures.answer ∙ sym (retreat_answer_map (λ s. s.code) before c.args.count);
       dropped = retreated_map (λ s. s.code) before c.args.count c.retreat.ensures.dropped;

@@ -2,14 +2,14 @@ use Rattle.std.proofs.Common.{◌≡◌, ℕ, true, List, [], ◌∷◌, ◌++�
 use Rattle.std.proofs.lemmas.List.{length-map, map_push}
 use Rattle.theory.specs.Meaning.{different}
 use Rattle.theory.proofs.Grounds.{set_accepted, set_room, set_apart}
-use Rattle.switches.specs.declared.Setting.{Setting}
+use Rattle.theory.specs.declared.stack.Literal.{Literal}
 use Rattle.switches.specs.declared.Switches.{Switches}
 use Rattle.switches.proofs.SwitchesTheory.set.Goals as goal
 
 abbrev codes : Switches → List ℕ
 codes t = map (λ s. s.code) (vec_items t.stack.records)
 
-codes_push : (xs : List Setting) (code : ℕ) {ys : List Setting} → ys ≡ xs ++ (record { code = code } ∷ [])
+codes_push : (xs : List Literal) (code : ℕ) {ys : List Literal} → ys ≡ xs ++ (record { code = code } ∷ [])
     → map (λ s. s.code) ys ≡ map (λ s. s.code) xs ++ (code ∷ [])
 codes_push xs code e = ap (map (λ s. s.code)) e ∙ map_push (λ s. s.code) xs (record { code = code })
 
@@ -28,7 +28,6 @@ invariant_of-self-2 c = record {
 pub returns : goal.returns
 returns c =
     record {
-      kept = tt;
       same = refl;
       by =
           record {

@@ -3,5 +3,6 @@ use Rattle.switches.specs.Switching.{switch_of}
 use Rattle.switches.proofs.Fronts.{fronted}
 use Rattle.switches.proofs.SwitchesTheory.world.Given as goal
 
-abbrev pub invariant-loop-i : goal.invariant-loop-i
-invariant-loop-i l = l.list ≡ fronted (switch_of (map (λ s. s.code) (vec_items l.self.stack.records))) l.initial.list l.i
+abbrev pub invariant-loop-switch : goal.invariant-loop-switch
+invariant-loop-switch l =
+    l.number-items ≡ fronted (switch_of (map (λ s. s.code) (vec_items l.self.stack.records))) l.initial.number-items l.switch

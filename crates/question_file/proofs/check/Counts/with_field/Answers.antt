@@ -3,6 +3,3 @@ use Rattle.question_file.proofs.check.Counts.with_field.Goals as goal
 
 pub returns-in-Counts : goal.returns-in-Counts
 returns-in-Counts c = let h = c.from_body.ensures c.args.room c.args.self in search rules
-
-pub returns-in-Clause : goal.returns-in-Clause
-returns-in-Clause c = let h = c.with_clause.ensures c.args.room in search rules

@@ -1,4 +1,4 @@
-use Rattle.std.proofs.Common.{◌≡◌, ◌+◌, ◌<◌, ◌≤◌, length, get_or, set, vec_items, sym, ap, ◌∙◌, subst, arith, length-set}
+use Rattle.std.proofs.Common.{◌+◌, length, get_or, set, vec_items, sym, ap, ◌∙◌, subst, arith, length-set}
 use Rattle.theory.proofs.Stacks.{Written, written_first, written_more, written_over}
 use Rattle.theory.proofs.stack.Stack.write_codes.Goals as goal
 
