@@ -3,7 +3,7 @@ use Rattle.passes.proofs.Stages.{no_end, after_end}
 use Rattle.passes.proofs.end.Goals as goal
 
 pub unreachable-requires : goal.unreachable-requires
-unreachable-requires g c = no_end (state_of c.args.question.now) c.requires.searched c.in-Err.ensures.by.does
+unreachable-requires g c = no_end (state_of c.args.question.now) c.requires c.in-Err.ensures.by.does
 
 pub returns : goal.returns
-returns g c = record { asked = c.end.ensures.asked; opened = after_end c.in-Ok.ensures.by }
+returns g c = after_end c.in-Ok.ensures.by

@@ -3,7 +3,7 @@ use Rattle.passes.proofs.Stages.{no_search, after_search}
 use Rattle.passes.proofs.search.Goals as goal
 
 pub unreachable-requires : goal.unreachable-requires
-unreachable-requires g c = no_search (state_of c.args.question.now) c.requires.opened c.in-Err.ensures.by.does
+unreachable-requires g c = no_search (state_of c.args.question.now) c.requires c.in-Err.ensures.by.does
 
 pub returns : goal.returns
-returns g c = record { asked = c.search.ensures.asked; meets = after_search c.in-Ok.outcome c.in-Ok.ensures.by }
+returns g c = after_search c.in-Ok.outcome c.in-Ok.ensures.by
