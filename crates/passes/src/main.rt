@@ -51,10 +51,7 @@ fn search<T: Theory>(question: &mut Question<T>, pass: OpenPass, grant: u32) -> 
     requires { is_open (state_of question.old) ≡ true }
     ensures { MeetsPass result (state_of question.new) }
 {
-    match question.search(pass, grant) {
-        Ok(outcome) => outcome,
-        Err(_) => unreachable(),
-    }
+    question.search(pass, grant).unwrap()
 }
 
 // Likewise, a search under way can be ended.
@@ -62,20 +59,14 @@ fn end<T: Theory>(question: &mut Question<T>, pass: EndPass) -> OpenPass
     requires { is_searched (state_of question.old) ≡ true }
     ensures { is_open (state_of question.new) ≡ true }
 {
-    match question.end(pass) {
-        Ok(pass) => pass,
-        Err(_) => unreachable(),
-    }
+    question.end(pass).unwrap()
 }
 
 // And an open question can be closed.
 fn close<T: Theory>(question: &mut Question<T>, pass: OpenPass)
     requires { is_open (state_of question.old) ≡ true }
 {
-    match question.close(pass) {
-        Ok(()) => {}
-        Err(_) => unreachable(),
-    }
+    question.close(pass).unwrap()
 }
 
 // Adds a clause to an open question, which stays open.
