@@ -3,14 +3,14 @@
 #![tactic(auto)]
 
 ghost use Rattle.std.specs.Prelude.{◌≡◌, true};
-ghost use Rattle.question.specs.Asked.{Asked, state_of};
+ghost use Rattle.question.specs.Asked.{state_of};
 ghost use Rattle.passes.specs.Staged.{is_open, is_searched, MeetsPass};
 
 use question::asked::Question;
 use question::{EndPass, OpenPass, Outcome};
 use refusals::Refusal;
 use std::alloc::{AllocError, Global};
-use std::io;
+use std::{fmt, io};
 use switches::Switches;
 use theory::Theory;
 
@@ -21,6 +21,20 @@ enum Told {
     Unread(u32),
     NoneExist(u32),
     Paused(u32),
+}
+
+impl fmt::Display for Told {
+    fn fmt<W: fmt::Write>(&self, f: &mut fmt::Formatter<W>) -> fmt::Result {
+        match self {
+            Told::Found(count, [a, b], [c, d]) => write!(
+                f,
+                "found {count}: {a} {b}, again {c} {d}"
+            ),
+            Told::Unread(count) => write!(f, "found {count}, not read"),
+            Told::NoneExist(count) => write!(f, "none {count}"),
+            Told::Paused(count) => write!(f, "paused {count}"),
+        }
+    }
 }
 
 // Whether both clauses were posted, what both searches came to, and the switches that the question was about.
@@ -34,40 +48,25 @@ struct Report {
 
 // An open question allows a search. The pass comes back only where the stage forbids one, which its contract rules out.
 fn search<T: Theory>(question: &mut Question<T>, pass: OpenPass, grant: u32) -> Outcome
-    requires asked { Asked T.Theory question.old }
-    requires opened { is_open (state_of question.old) ≡ true }
-    ensures asked { Asked T.Theory question.new }
-    ensures meets { MeetsPass result (state_of question.new) }
+    requires { is_open (state_of question.old) ≡ true }
+    ensures { MeetsPass result (state_of question.new) }
 {
-    match question.search(pass, grant) {
-        Ok(outcome) => outcome,
-        Err(_) => unreachable(),
-    }
+    question.search(pass, grant).unwrap()
 }
 
 // Likewise, a search under way can be ended.
 fn end<T: Theory>(question: &mut Question<T>, pass: EndPass) -> OpenPass
-    requires asked { Asked T.Theory question.old }
-    requires searched { is_searched (state_of question.old) ≡ true }
-    ensures asked { Asked T.Theory question.new }
-    ensures opened { is_open (state_of question.new) ≡ true }
+    requires { is_searched (state_of question.old) ≡ true }
+    ensures { is_open (state_of question.new) ≡ true }
 {
-    match question.end(pass) {
-        Ok(pass) => pass,
-        Err(_) => unreachable(),
-    }
+    question.end(pass).unwrap()
 }
 
 // And an open question can be closed.
 fn close<T: Theory>(question: &mut Question<T>, pass: OpenPass)
-    requires asked { Asked T.Theory question.old }
-    requires opened { is_open (state_of question.old) ≡ true }
-    ensures { Asked T.Theory question.new }
+    requires { is_open (state_of question.old) ≡ true }
 {
-    match question.close(pass) {
-        Ok(()) => {}
-        Err(_) => unreachable(),
-    }
+    question.close(pass).unwrap()
 }
 
 // Adds a clause to an open question, which stays open.
@@ -76,20 +75,16 @@ fn post<T: Theory>(
     pass: &OpenPass,
     clause: &[u16],
 ) -> Result<(), Refusal>
-    requires asked { Asked T.Theory question.old }
-    requires opened { is_open (state_of question.old) ≡ true }
-    ensures asked { Asked T.Theory question.new }
-    ensures opened { is_open (state_of question.new) ≡ true }
+    requires { is_open (state_of question.old) ≡ true }
+    ensures { is_open (state_of question.new) ≡ true }
 {
     question.post(pass, clause)
 }
 
 // Says what a search came to, and ends it.
 fn settle<T: Theory>(question: &mut Question<T>, outcome: Outcome) -> (OpenPass, Told)
-    requires asked { Asked T.Theory question.old }
-    requires meets { MeetsPass outcome (state_of question.old) }
-    ensures asked { Asked T.Theory question.new }
-    ensures opened { is_open (state_of question.new) ≡ true }
+    requires { MeetsPass outcome (state_of question.old) }
+    ensures { is_open (state_of question.new) ≡ true }
 {
     match outcome {
         Outcome::Found(found, count) => {
@@ -115,10 +110,7 @@ fn settle<T: Theory>(question: &mut Question<T>, outcome: Outcome) -> (OpenPass,
 // Asks about two switches. All memory is reserved before there is a pass, so that nothing fails while one is held.
 fn ask(heap: Global) -> Result<Report, AllocError> {
     let theory = Switches::new(2, Vec::with_capacity(heap, 2)?);
-    let Ok((question, pass)) = Question::open(heap, theory) else {
-        return Err(AllocError);
-    };
-    let mut question = question;
+    let (mut question, pass) = Question::open(heap, theory)?;
     let once = post(&mut question, &pass, &[1, 2]);
     let outcome = search(&mut question, pass, 2);
     let (pass, first) = settle(&mut question, outcome);
@@ -134,25 +126,13 @@ fn ask(heap: Global) -> Result<Report, AllocError> {
     })
 }
 
-fn tell(rt: HostRuntime, told: Told) -> io::Result<()> {
-    match told {
-        Told::Found(count, world, again) => {
-            let [a, b] = world;
-            let [c, d] = again;
-            println!(rt; "found {count}: {a} {b}, again {c} {d}")
-        }
-        Told::Unread(count) => println!(rt; "found {count}, not read"),
-        Told::NoneExist(count) => println!(rt; "none {count}"),
-        Told::Paused(count) => println!(rt; "paused {count}"),
-    }
-}
-
 fn main(rt: HostRuntime) -> io::Result<()> {
     let report = ask(rt.alloc())?;
     let posted = report.posted;
     println!(rt; "posted {posted}")?;
-    tell(rt, report.first)?;
-    tell(rt, report.second)?;
+    let Report { first, second, .. } = &report;
+    println!(rt; "{first}")?;
+    println!(rt; "{second}")?;
     let count = report.switches.sizes().variables;
     println!(rt; "closed, switches {count}")
 }

@@ -1,6 +1,5 @@
 mod Sets
-mod Turning
-mod Links
 mod Rules
-mod Replaying
+mod Turning
 mod Staged
+mod Replaying

@@ -1,6 +1,6 @@
 -- Calls made one after another, as a history.
-use Rattle.std.proofs.Common.{◌≡◌, ℕ, List, [], ◌∷◌, ◌++◌, map, reverse, length, drop, ℤ, Some, sym, ap, ◌∙◌, subst, arith}
-use Rattle.std.proofs.lemmas.List.{map_push, reverse-append, append-nil, drop_all}
+use Rattle.std.proofs.Common.{◌≡◌, List, [], ◌∷◌, ◌++◌, map, reverse, Some, sym, subst}
+use Rattle.std.proofs.lemmas.List.{map_push, reverse-append}
 use Rattle.steps.specs.Calls.{Call, Event, State, open_with, History, opening, next}
 use Rattle.steps.proofs.Every.{promises}
 use Rattle.theory.specs.Meaning.{Meaning, Lawful}
@@ -24,17 +24,18 @@ module _ (m : Meaning) where
     pub history : History m events state
     pub told : TellsAll (map (call_of m.variables) calls) answers (reverse events)
 
-  pub none_yet : (answers : List Answer) (state : State) → answers ≡ [] → state ≡ open_with [] → SoFar [] answers state
-  none_yet answers state empty opened =
+  pub none_yet : {answers : List Answer} {state : State} → answers ≡ [] → state ≡ open_with [] → SoFar [] answers state
+  none_yet empty opened =
       record {
         events = [];
         history = subst (History m []) (sym opened) opening;
         told = subst (λ xs. TellsAll [] xs []) (sym empty) tt;
       }
 
-  pub one_more : (calls calls' : List data_call.Call) (answers answers' : List Answer) (s s' : State) (c : data_call.Call) (a : Answer)
-      → calls' ≡ calls ++ (c ∷ []) → answers' ≡ answers ++ (a ∷ []) → SoFar calls answers s → Performed m s (call_of m.variables c) a s' → SoFar calls' answers' s'
-  one_more calls calls' answers answers' s s' c a is as_is f p =
+  pub one_more : {m₁ : Meaning} {calls calls' : List data_call.Call} {answers answers' : List Answer} {s s' : State} (c : data_call.Call) (a : Answer)
+      → calls' ≡ calls ++ (c ∷ []) → answers' ≡ answers ++ (a ∷ []) → SoFar calls answers s → m₁ ≡ m → Performed m₁ s (call_of m₁.variables c) a s' → SoFar calls' answers' s'
+  one_more {calls = calls} {answers = answers} {answers' = answers'} {s = s} {s' = s'} c a is as_is f same p₁ =
+      let p = subst (λ (n : Meaning). Performed n s (call_of n.variables c) a s') same p₁ in
       record {
         events = p.event ∷ f.events;
         history = next f.history p.does;
@@ -46,8 +47,8 @@ module _ (m : Meaning) where
             (tells_push (map (call_of m.variables) calls) answers (reverse f.events) (call_of m.variables c) a p.event f.told p.told))));
       }
 
-  pub all_answered : Lawful m → (calls calls' : List data_call.Call) (answers : List Answer) (s : State) → calls ≡ calls' → SoFar calls answers s → Answered m calls' answers
-  all_answered lawful calls calls' answers s is f =
+  pub all_answered : Lawful m → {calls calls' : List data_call.Call} {answers : List Answer} {s : State} → calls ≡ calls' → SoFar calls answers s → Answered m calls' answers
+  all_answered lawful {answers = answers} {s = s} is f =
       record {
         events = f.events;
         state = s;
@@ -55,7 +56,3 @@ module _ (m : Meaning) where
         told = subst (λ cs. TellsAll (map (call_of m.variables) cs) answers (reverse f.events)) is f.told;
         right = (promises m lawful).every_list f.events s f.history;
       }
-
--- a world that fills its list
-pub filled : (variables : ℕ) (world list list' : List ℤ) → length list ≡ variables → list' ≡ world ++ drop variables list → list' ≡ world
-filled variables world list list' long is = is ∙ ap (λ rest. world ++ rest) (drop_all variables list (omega (arith, long))) ∙ append-nil world

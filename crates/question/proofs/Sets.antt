@@ -1,4 +1,4 @@
--- What the theory's answers say of the trail, whose literals are newest first.
+-- What the theory's answers say of the set literals. The codes are newest first, and the theory's stack has them oldest first.
 use Rattle.std.proofs.Common.{◌≡◌, ℕ, ◌≤◌, true, false, not, ◌||◌, eqb, ltb, leb, List, [], ◌∷◌, ◌++◌, reverse, length, ℤ, is_err, Some, None, Ok, Err, Option, Result, sym, refl, ap, ◌∙◌, subst, arith, MatchOption}
 use Rattle.std.proofs.ByRecursion.{All-push}
 use Rattle.std.proofs.lemmas.List.{reverse-append, reverse-reverse}
@@ -7,11 +7,11 @@ use Rattle.std.specs.List.{AllByRecursion}
 use Rattle.refusals.specs.Grounds.{clash_count}
 use Rattle.refusals.specs.declared.Refusal.{Refusal}
 use Rattle.steps.proofs.Judged.{none≢some}
-use Rattle.theory.specs.Calls.{set_ground, Picked, none, keep, skip, Conflict, Clashed, NotLookedAt, SetBy}
+use Rattle.theory.specs.Calls.{set_ground, Picked, none, keep, skip, Clashed, NotLookedAt, SetBy}
 use Rattle.theory.specs.Meaning.{Meaning, AllHold, WorldOf, NoWorld, atom_of, names, HasWorld}
 use Rattle.clauses.specs.Standing.{can_set}
 
-pub reverse_first : {A : Type 0} (x : A) (xs : List A) → reverse (x ∷ xs) ≡ reverse xs ++ (x ∷ [])
+reverse_first : {A : Type 0} (x : A) (xs : List A) → reverse (x ∷ xs) ≡ reverse xs ++ (x ∷ [])
 reverse_first x xs = reverse-append (x ∷ []) xs
 
 all_reverse : {A : Type 0} (P : A → Type 0) (xs : List A) → AllByRecursion P xs → AllByRecursion P (reverse xs)
@@ -32,61 +32,45 @@ all_picked P none h = tt
 all_picked P (keep p) h = (h.0, all_picked P p h.1)
 all_picked P (skip p) h = all_picked P p h.1
 
-module _ (m : Meaning) (set : List ℕ) where
-  -- the stack holds where the trail does, and the other way round
-  pub trail_from_stack : (w : List ℤ) → WorldOf m (reverse set) w → WorldOf m set w
-  trail_from_stack w is =
-      record { whole = is.whole; all_hold = subst (λ cs. AllHold m cs w) (reverse-reverse set) (all_reverse (λ c. m.holds c w ≡ true) (reverse set) is.all_hold) }
-
-  stack_from_trail : (w : List ℤ) → AllHold m set w → AllHold m (reverse set) w
-  stack_from_trail w h = all_reverse (λ c. m.holds c w ≡ true) set h
-
-  pub world_of_trail : (w : List ℤ) → WorldOf m (reverse set) w → HasWorld m set
-  world_of_trail w is = record { world = w; is_world = trail_from_stack w is }
-
+module _ (m : Meaning) (cs : List ℕ) where
   -- why a literal that can be set is looked at
-  pub looked_at : (code places : ℕ) → can_set m.atoms set code ≡ true → m.atoms ≤ places
-      → set_ground m.atoms (reverse set) code places ≡ None
+  looked_at : (code places : ℕ) → can_set m.atoms cs code ≡ true → m.atoms ≤ places → set_ground m.atoms (reverse cs) code places ≡ None
   looked_at code places h room =
-      let p = and_parts (ltb (atom_of code) m.atoms) (not (names set (atom_of code))) h in
-      let there : leb m.atoms (atom_of code) ≡ false = lt-leb m.atoms (atom_of code) (ltb-true (atom_of code) m.atoms p.0) in
-      let free : names (reverse set) (atom_of code) ≡ false = names_reverse set (atom_of code) ∙ not-true _ p.1 in
-      let enough : ltb places m.atoms ≡ false = le-ltb places m.atoms room in
-      cond-false (leb m.atoms (atom_of code)) _ _ there ∙ cond-false (names (reverse set) (atom_of code)) _ _ free ∙ cond-false (ltb places m.atoms) _ _ enough
+      let p = and_parts (ltb (atom_of code) m.atoms) (not (names cs (atom_of code))) h in
+      cond-false (leb m.atoms (atom_of code)) _ _ (lt-leb m.atoms (atom_of code) (ltb-true (atom_of code) m.atoms p.0))
+      ∙ cond-false (names (reverse cs) (atom_of code)) _ _ (names_reverse cs (atom_of code) ∙ not-true _ p.1) ∙ cond-false (ltb places m.atoms) _ _ (le-ltb places m.atoms room)
 
-  -- a clash: the literal has no world with the trail
-  no_world_from : (code : ℕ) (conflict : List ℕ) → Conflict m (reverse set) code conflict → NoWorld m (code ∷ set)
-  no_world_from code conflict c w is =
-      c.no_world w
-      (record {
-        whole = is.whole;
-        all_hold =
-            subst (λ cs. AllHold m cs w) (sym c.begins)
-            (is.all_hold.0, all_picked (λ x. m.holds x w ≡ true) c.in_order (stack_from_trail w is.all_hold.1));
-      })
+  module _ (code : ℕ) (list conflict stack' list' : List ℕ) (can : can_set m.atoms cs code ≡ true) (room : m.atoms ≤ length list) where
+    clashed : (why : Refusal) (o : Option ℕ) → MatchOption o (NotLookedAt m (reverse cs) code list why stack' list') (λ count. Clashed m (reverse cs) conflict code list count stack' list')
+        → NoWorld m (code ∷ cs)
+    clashed why None by w is = absurd (none≢some (sym (looked_at code (length list) can room) ∙ by.reason))
+    clashed why (Some count) by w is =
+        by.true_conflict.no_world w
+        (record {
+          whole = is.whole;
+          all_hold =
+              subst (λ xs. AllHold m xs w) (sym by.true_conflict.begins)
+              (is.all_hold.0, all_picked (λ c. m.holds c w ≡ true) by.true_conflict.in_order (all_reverse (λ c. m.holds c w ≡ true) cs is.all_hold.1));
+        })
 
-  pub record Clash (code : ℕ) (stack' : List ℕ) : Type 0 where
-    pub no_world : NoWorld m (code ∷ set)
-    pub stack_same : stack' ≡ reverse set
+-- what `set` makes of a literal that can be set
+module _ (m : Meaning) (cs stack : List ℕ) (is : stack ≡ reverse cs) (code : ℕ) (list conflict stack' list' : List ℕ) where
+  -- refused: it has no world with the set literals
+  pub no_world : can_set m.atoms cs code ≡ true → m.atoms ≤ length list → (r : Result (Unit {0}) Refusal) → is_err r ≡ true → SetBy m stack conflict code list r stack' list' → NoWorld m (code ∷ cs)
+  no_world can room (Ok done) e by = absurd (false≢true e)
+  no_world can room (Err why) e by =
+      clashed m cs code list conflict stack' list' can room why (clash_count why) (subst (λ xs. SetBy m xs conflict code list (Err why) stack' list') is by)
 
-  clash_cases : (code : ℕ) (list conflict stack' list' : List ℕ) (why : Refusal) (o : Option ℕ) → set_ground m.atoms (reverse set) code (length list) ≡ None
-      → MatchOption o (NotLookedAt m (reverse set) code list why stack' list') (λ count. Clashed m (reverse set) conflict code list count stack' list') → Clash code stack'
-  clash_cases code list conflict stack' list' why None reason by = absurd (none≢some (sym reason ∙ by.reason))
-  clash_cases code list conflict stack' list' why (Some count) reason by =
-      record { no_world = no_world_from code conflict by.true_conflict; stack_same = by.stack_same }
+  -- accepted: the stack has it too
+  pub grown : (r : Result (Unit {0}) Refusal) → is_err r ≡ false → SetBy m stack conflict code list r stack' list' → stack' ≡ reverse (code ∷ cs)
+  grown (Ok done) e by = by.grown ∙ ap (λ xs. xs ++ (code ∷ [])) is ∙ sym (reverse_first code cs)
+  grown (Err why) e by = absurd (false≢true (sym e))
 
-  pub set_clash : (code : ℕ) (list conflict stack' list' : List ℕ) (why : Refusal) → set_ground m.atoms (reverse set) code (length list) ≡ None
-      → SetBy m (reverse set) conflict code list (Err why) stack' list' → Clash code stack'
-  set_clash code list conflict stack' list' why reason by = clash_cases code list conflict stack' list' why (clash_count why) reason by
+-- a world of the theory's stack is one of the set literals
+pub world_is : {m m' : Meaning} {stack : List ℕ} {world : List ℤ} (cs : List ℕ) → m' ≡ m → stack ≡ reverse cs → WorldOf m' stack world → WorldOf m cs world
+world_is {m} {m'} {stack} {world} cs same is w =
+    let v = subst (λ (n : Meaning). WorldOf n stack world) same w in
+    record { whole = v.whole; all_hold = subst (AllByRecursion (λ c. m.holds c world ≡ true)) (ap reverse is ∙ reverse-reverse cs) (all_reverse (λ c. m.holds c world ≡ true) stack v.all_hold) }
 
--- what `set` answers to a literal that can be set
-module _ (m : Meaning) (set : List ℕ) (stack : List ℕ) (is : stack ≡ reverse set) (code : ℕ) (list : List ℕ) (can : can_set m.atoms set code ≡ true)
-    (room : m.atoms ≤ length list) where
-  pub refused_clash : (conflict stack' list' : List ℕ) (r : Result (Unit {0}) Refusal) → is_err r ≡ true → SetBy m stack conflict code list r stack' list' → Clash m set code stack'
-  refused_clash conflict stack' list' (Ok done) e by = absurd (false≢true e)
-  refused_clash conflict stack' list' (Err why) e by =
-      set_clash m set code list conflict stack' list' why (looked_at m set code (length list) can room) (subst (λ s. SetBy m s conflict code list (Err why) stack' list') is by)
-
-  pub accepted_grown : (conflict stack' list' : List ℕ) (r : Result (Unit {0}) Refusal) → is_err r ≡ false → SetBy m stack conflict code list r stack' list' → stack' ≡ reverse set ++ (code ∷ [])
-  accepted_grown conflict stack' list' (Ok done) e by = by.grown ∙ ap (λ s. s ++ (code ∷ [])) is
-  accepted_grown conflict stack' list' (Err why) e by = absurd (false≢true (sym e))
+pub has_world : {m m' : Meaning} {stack : List ℕ} {world : List ℤ} (cs : List ℕ) → m' ≡ m → stack ≡ reverse cs → WorldOf m' stack world → HasWorld m cs
+has_world {world = world} cs same is w = record { world = world; is_world = world_is cs same is w }

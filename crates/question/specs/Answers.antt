@@ -1,5 +1,6 @@
 -- What each call of a question answers and does, by the one relation over all calls.
 use Rattle.std.specs.Prelude.{◌≡◌, ℕ, List, [], ◌++◌, length, drop, ℤ, Ok, Err, Result}
+use Rattle.std.specs.declared.alloc.AllocFailed.{AllocFailed}
 use Rattle.refusals.specs.declared.Refusal.{Refusal}
 use Rattle.steps.specs.Calls.{State, open_with, Call, Post, Search, Resume, World, End, Close, Refused, Posted, Searched, Resumed, Read, Ended, Closed, Does}
 use Rattle.steps.specs.Clauses.{Clause}
@@ -8,7 +9,7 @@ use Rattle.steps.specs.declared.Verdict.{Verdict}
 use Rattle.steps.specs.declared.Verdict.TheVariants.{Found, NoneExist, Paused}
 use Rattle.theory.specs.Meaning.{Meaning}
 use Rattle.theory.specs.declared.Theory.{Ghosts}
-use Rattle.question.specs.Asked.{Asked, state_of, meaning_of}
+use Rattle.question.specs.Asked.{state_of, meaning_of}
 use Rattle.question.specs.declared.Denied.{Denied}
 use Rattle.question.specs.declared.EndPass.{EndPass}
 use Rattle.question.specs.declared.OpenPass.{OpenPass}
@@ -28,15 +29,14 @@ count_of (outcome.NoneExist pass count) = count
 count_of (outcome.Paused pass count) = count
 
 -- a question was opened, or the theory is given back as it was, for want of memory
-pub record Opened {T : Type 0} (theory : Ghosts T) (t : T) (q : Question T) : Type 0 where
-  pub asked : Asked theory q
+pub record Opened {T : Type 0} (theory : Ghosts T) (t : T) (q : Question T theory) : Type 0 where
   pub opens : state_of q ≡ open_with []
-  pub same : meaning_of theory q ≡ theory.meaning t
+  pub same : meaning_of q ≡ theory.meaning t
   pub promises : Promises (theory.meaning t)
 
-abbrev pub OpenBy : {T : Type 0} → Ghosts T → T → Result (Question T × OpenPass) T → Type 0
+abbrev pub OpenBy : {T : Type 0} (theory : Ghosts T) → T → Result (Question T theory × OpenPass) (AllocFailed T) → Type 0
 OpenBy theory t (Ok opened) = Opened theory t opened.0
-OpenBy theory t (Err back) = back ≡ t
+OpenBy theory t (Err back) = back.value ≡ t
 
 -- a call that was refused hands its pass back
 pub record HandedBack {P : Type 0} (m : Meaning) (s : State) (call : Call) (pass : P) (denied : Denied P) (s' : State) : Type 0 where

@@ -1,4 +1,5 @@
 pub mod Stages
+pub mod Held
 pub mod Asked
 pub mod Turns
 pub mod Answers

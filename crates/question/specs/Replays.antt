@@ -1,5 +1,6 @@
 -- Calls and answers as data, and which events they are.
 use Rattle.std.specs.Prelude.{◌≡◌, ℕ, List, [], ◌∷◌, map, reverse, ℤ, Some, None, Ok, Err, vec_items, Option, Result}
+use Rattle.std.specs.declared.alloc.AllocFailed.{AllocFailed}
 use Rattle.steps.specs.Calls.{Call, Post, Search, Resume, World, End, Close, Event, Refused, Posted, Searched, Resumed, Read, Ended, Closed, State, Does, History}
 use Rattle.steps.specs.Promises.{AllRight}
 use Rattle.steps.specs.declared.Verdict.{Verdict}
@@ -16,7 +17,7 @@ use Rattle.question.specs.declared.asked.replay.Replayed.{Replayed}
 
 -- a call as data; a world is asked for with as many places as there are variables
 abbrev pub call_of : ℕ → data_call.Call → Call
-call_of variables (call.Post clause) = Post (vec_items clause)
+call_of variables (call.Post clause) = Post clause.now
 call_of variables (call.Search grant) = Search grant
 call_of variables (call.Resume grant) = Resume grant
 call_of variables call.World = World variables
@@ -107,16 +108,12 @@ pub record Answered (m : Meaning) (calls : List data_call.Call) (answers : List 
   pub told : TellsAll (map (call_of m.variables) calls) answers (reverse events)
   pub right : AllRight m events
 
--- the theory comes back
-pub record GivenBack {T : Type 0} (theory : Ghosts T) (t t' : T) : Type 0 where
-  pub made : theory.made t'
-  pub same : theory.meaning t' ≡ theory.meaning t
-
+-- the theory comes back: it means what it meant
 pub record ReplayedRight {T : Type 0} (theory : Ghosts T) (t : T) (calls : List data_call.Call) (done : Replayed T) : Type 0 where
   pub answered : Answered (theory.meaning t) calls (vec_items done.answers)
-  pub back : GivenBack theory t done.theory
+  pub same : theory.meaning done.theory ≡ theory.meaning t
   pub empty : theory.stack done.theory ≡ []
 
-abbrev pub ReplayBy : {T : Type 0} → Ghosts T → T → List data_call.Call → Result (Replayed T) T → Type 0
+abbrev pub ReplayBy : {T : Type 0} → Ghosts T → T → List data_call.Call → Result (Replayed T) (AllocFailed T) → Type 0
 ReplayBy theory t calls (Ok done) = ReplayedRight theory t calls done
-ReplayBy theory t calls (Err back) = GivenBack theory t back
+ReplayBy theory t calls (Err back) = theory.meaning back.value ≡ theory.meaning t

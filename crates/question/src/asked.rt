@@ -1,18 +1,21 @@
 // The question itself.
+ghost use Rattle.question.specs.Held.{AtomsThere, AtomsThere-prop, Resting, Resting-prop};
+
 use crate::Stage;
-use clauses::assignment::Assignment;
 use clauses::posted::Clauses;
+use searching::Solver;
+use theory::Theory;
 
 pub mod calls;
 pub mod replay;
 mod searching;
 
-// A theory held by value, the posted clauses, and the literals that the search has set. The conflict list is what the
-// theory writes to; all memory is reserved when the question is opened.
-pub struct Question<T> {
-    theory: T,
+// The posted clauses, and a solver for them, which holds the theory by value. All memory is reserved when the question is
+// opened.
+pub struct Question<T: Theory> {
+    solver: Solver<T>,
     stage: Stage,
     clauses: Clauses,
-    assignment: Assignment,
-    conflict: Vec<u16>,
+    ghost atoms_there: { AtomsThere (T.meaning solver.theory).atoms clauses } by { AtomsThere-prop (T.meaning solver.theory).atoms clauses },
+    ghost resting: { Resting stage solver.assignment.trail } by { Resting-prop stage solver.assignment.trail },
 }

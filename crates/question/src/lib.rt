@@ -42,6 +42,38 @@ pub enum EndPass {
     Found(FoundPass),
 }
 
+// What takes a pass and gives none back spends it.
+pub(crate) trait Pass {
+    fn spend(self);
+}
+
+impl Pass for OpenPass {
+    fn spend(self) {
+        let OpenPass(_) = self;
+    }
+}
+
+impl Pass for PausedPass {
+    fn spend(self) {
+        let PausedPass(_) = self;
+    }
+}
+
+impl Pass for FoundPass {
+    fn spend(self) {
+        let FoundPass(_) = self;
+    }
+}
+
+impl Pass for EndPass {
+    fn spend(self) {
+        match self {
+            EndPass::Paused(pass) => pass.spend(),
+            EndPass::Found(pass) => pass.spend(),
+        }
+    }
+}
+
 // What a search came to: the pass of the stage that it leads to, and the decisions counted.
 pub enum Outcome {
     Found(FoundPass, u32),

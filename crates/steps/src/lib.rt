@@ -31,7 +31,6 @@ pub enum Verdict {
 
 // What every list of calls to a question over the theory keeps.
 pub fn promised<T: Theory>(theory: &T)
-    requires { T.Theory.made theory.now }
     ensures { Promises (T.Theory.meaning theory.now) }
 {
     let _ = theory;

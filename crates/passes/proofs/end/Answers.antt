@@ -1,9 +1,9 @@
 use Rattle.question.specs.Asked.{state_of}
-use Rattle.passes.proofs.Stages.{no_end, after_end}
+use Rattle.passes.proofs.Stages.{end_accepted, after_end}
 use Rattle.passes.proofs.end.Goals as goal
 
-pub unreachable-requires : goal.unreachable-requires
-unreachable-requires g c = no_end (state_of c.args.question.now) c.requires.searched c.in-Err.ensures.by.does
+pub unwrap-requires : goal.unwrap-requires
+unwrap-requires g c = end_accepted _ (state_of c.args.question.now) _ _ _ c.requires c.end.ensures.by
 
 pub returns : goal.returns
-returns g c = record { asked = c.end.ensures.asked; opened = after_end c.in-Ok.ensures.by }
+returns g c = after_end (rw c.unwrap.ensures at c.end.ensures.by)

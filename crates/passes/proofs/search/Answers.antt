@@ -1,9 +1,9 @@
 use Rattle.question.specs.Asked.{state_of}
-use Rattle.passes.proofs.Stages.{no_search, after_search}
+use Rattle.passes.proofs.Stages.{search_accepted, after_search}
 use Rattle.passes.proofs.search.Goals as goal
 
-pub unreachable-requires : goal.unreachable-requires
-unreachable-requires g c = no_search (state_of c.args.question.now) c.requires.opened c.in-Err.ensures.by.does
+pub unwrap-requires : goal.unwrap-requires
+unwrap-requires g c = search_accepted _ (state_of c.args.question.now) _ _ _ _ c.requires c.search.ensures.by
 
 pub returns : goal.returns
-returns g c = record { asked = c.search.ensures.asked; meets = after_search c.in-Ok.outcome c.in-Ok.ensures.by }
+returns g c = after_search c.unwrap.result (rw c.unwrap.ensures at c.search.ensures.by)

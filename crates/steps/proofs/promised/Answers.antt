@@ -1,6 +1,5 @@
 use Rattle.steps.proofs.promised.Goals as goal
 use Rattle.steps.proofs.Every.{promises}
 
--- src/lib.rt:30:1
 pub returns : goal.returns
-returns g c = promises (g.T.Theory.meaning c.args.theory.now) (g.met.T.Theory.lawful c.args.theory.now c.requires)
+returns g c = promises (g.T.Theory.meaning c.args.theory.now) (g.met.T.Theory.lawful c.args.theory.now)

@@ -1,28 +1,12 @@
-use Rattle.std.proofs.Common.{refl, rules}
+use Rattle.std.proofs.lemmas.Result.{err_from_is_err_and}
 use Rattle.steps.specs.Calls.{Close}
-use Rattle.question.specs.Asked.{clauses_of, trail_of, meaning_of}
-use Rattle.question.proofs.Staged.{hands_back, closes, rests}
+use Rattle.question.proofs.Staged.{hands_back, closes}
 use Rattle.question.proofs.asked.Question.close.Goals as goal
 
-pub returns-in-Ok : goal.returns-in-Ok
-returns-in-Ok g c =
-    let q = c.args.self.now in
-    let m = meaning_of g.T.Theory q in
-    record {
-      asked =
-          record {
-            linked = search rules;
-            resting = rests m (clauses_of q) (trail_of q) c.in-Ok.stage q.stage c.in-Ok.ensures c.requires.resting;
-          };
-      same = refl;
-      by = closes m (clauses_of q) (trail_of q) c.in-Ok.stage q.stage c.in-Ok.ensures;
-    }
+pub returns-in_err-self-clause-by : goal.returns-in_err-self-clause-by
+returns-in_err-self-clause-by g c =
+    let p = err_from_is_err_and c.from_residual.result c.from_residual.ensures.1 in
+    rw (p.1, p.2) (hands_back _ _ _ c.args.self.now.stage Close c.in_err-self.ensures)
 
-pub returns-in-Err : goal.returns-in-Err
-returns-in-Err g c =
-    let q = c.args.self.now in
-    record {
-      asked = c.requires;
-      same = refl;
-      by = hands_back (meaning_of g.T.Theory q) (clauses_of q) (trail_of q) c.args.pass q.stage Close c.in-Err.refusal c.in-Err.ensures;
-    }
+pub returns-clause-by : goal.returns-clause-by
+returns-clause-by g c = closes _ _ _ c.args.self.now.stage c.in_ok-self.ensures

@@ -1,12 +1,8 @@
-use Rattle.std.proofs.Common.{rules}
-use Rattle.question.proofs.Staged.{none_left}
+use Rattle.question.proofs.Staged.{still_there}
 use Rattle.question.proofs.asked.Question.conclude.Goals as goal
 
-pub returns-in-NoneExist : goal.returns-in-NoneExist
-returns-in-NoneExist g c =
-    record {
-      asked = record { linked = search rules; resting = none_left c.run-verdict.ensures.runs.ends c.in-NoneExist.is };
-      same = search rules;
-      runs = search rules;
-      state = search rules;
-    }
+pub invariant_of-self : goal.invariant_of-self
+invariant_of-self g c = record { atoms_there = still_there _ c.run-verdict.ensures.same c.args.self.now.atoms_there; resting = tt }
+
+pub invariant_of-self-in-Paused : goal.invariant_of-self-in-Paused
+invariant_of-self-in-Paused g c = record { atoms_there = still_there _ c.run-verdict.ensures.same c.args.self.now.atoms_there; resting = tt }

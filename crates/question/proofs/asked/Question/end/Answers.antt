@@ -1,23 +1,12 @@
-use Rattle.std.proofs.Common.{refl, rules}
+use Rattle.std.proofs.lemmas.Result.{err_from_is_err_and}
 use Rattle.steps.specs.Calls.{End}
-use Rattle.question.specs.Asked.{clauses_of, trail_of, meaning_of}
 use Rattle.question.proofs.Staged.{hands_back, ends}
 use Rattle.question.proofs.asked.Question.end.Goals as goal
 
-pub returns-in-Err : goal.returns-in-Err
-returns-in-Err g c =
-    let q = c.args.self.now in
-    record {
-      asked = c.requires;
-      same = refl;
-      by = hands_back (meaning_of g.T.Theory q) (clauses_of q) (trail_of q) c.args.pass q.stage End c.in-Err.refusal c.in-Err.ensures;
-    }
+pub returns-in_err-take-clause-by : goal.returns-in_err-take-clause-by
+returns-in_err-take-clause-by g c =
+    let p = err_from_is_err_and c.from_residual.result c.from_residual.ensures.1 in
+    rw (p.1, p.2) (hands_back _ _ _ c.args.self.now.stage End c.in_err-take.ensures)
 
-pub returns : goal.returns
-returns g c =
-    let q = c.args.self.now in
-    record {
-      asked = search rules;
-      same = search rules;
-      by = ends (meaning_of g.T.Theory q) (clauses_of q) (trail_of q) c.in_default.field-0 q.stage _ c.in_default.ensures (search rules);
-    }
+pub returns-clause-by : goal.returns-clause-by
+returns-clause-by g c = ends _ _ _ c.args.self.now.stage c.in_ok-take.ensures

@@ -5,9 +5,4 @@ use Rattle.question.proofs.asked.Question.open.Goals as goal
 pub returns : goal.returns
 returns g c =
     let t = c.args.theory in
-    record {
-      asked = search rules;
-      opens = search rules;
-      same = search rules;
-      promises = promises (g.T.Theory.meaning t) (g.met.T.Theory.lawful t c.requires);
-    }
+    record { opens = search rules; same = search rules; promises = promises (g.T.Theory.meaning t) (g.met.T.Theory.lawful t) }

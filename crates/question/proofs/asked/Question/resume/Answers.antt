@@ -1,28 +1,14 @@
-use Rattle.std.proofs.Common.{refl}
+use Rattle.std.proofs.lemmas.Result.{err_from_is_err_and}
 use Rattle.steps.specs.Calls.{Resume}
 use Rattle.question.specs.Answers.{verdict_of, count_of}
-use Rattle.question.specs.Asked.{clauses_of, trail_of, meaning_of, state_of}
 use Rattle.question.proofs.Staged.{hands_back, resumes}
 use Rattle.question.proofs.asked.Question.resume.Goals as goal
 
-pub returns-in-Err : goal.returns-in-Err
-returns-in-Err g c =
-    let q = c.args.self.now in
-    record {
-      asked = c.requires;
-      same = refl;
-      by = hands_back (meaning_of g.T.Theory q) (clauses_of q) (trail_of q) c.args.pass q.stage (Resume c.args.grant) c.in-Err.refusal c.in-Err.ensures;
-    }
+pub returns-in_err-take-clause-by : goal.returns-in_err-take-clause-by
+returns-in_err-take-clause-by g c =
+    let p = err_from_is_err_and c.from_residual.result c.from_residual.ensures.1 in
+    rw (p.1, p.2) (hands_back _ _ _ c.args.self.now.stage (Resume c.args.grant) c.in_err-take.ensures)
 
-pub returns : goal.returns
-returns g c =
-    let q = c.args.self.now in
-    let q₁ = c.conclude.new.self in
-    let out = c.conclude.result in
-    record {
-      asked = c.conclude.ensures.asked;
-      same = c.conclude.ensures.same;
-      by =
-          resumes (meaning_of g.T.Theory q) (clauses_of q) (trail_of q) c.in_default.field-0 q.stage c.args.grant (count_of out) (verdict_of out) (trail_of q₁) (state_of q₁) c.in_default.ensures
-          c.conclude.ensures.runs c.conclude.ensures.state;
-    }
+pub returns-clause-by : goal.returns-clause-by
+returns-clause-by g c =
+    resumes _ _ _ c.args.self.now.stage c.args.grant (count_of c.conclude.result) (verdict_of c.conclude.result) c.in_ok-take.ensures c.conclude.ensures.runs c.conclude.ensures.state
