@@ -15,10 +15,10 @@ use tables::{DifferenceEntry, EqualityEntry, MOST};
 // The kinds of fields, in the order in which they stand in a file.
 #[derive(Clone, Copy, PartialEq, Eq, PartialOrd, Ord, Debug)]
 pub enum Tag {
-    Counts,
-    Difference,
-    Equality,
-    Clause,
+    Counts = 1,
+    Difference = 2,
+    Equality = 3,
+    Clause = 4,
 }
 
 // What a file holds, counted.
