@@ -25,11 +25,10 @@ pub struct Pair<L: Theory, R: Theory> {
 
 // How many of the literals are the left's, which has so many atoms.
 fn count_left(came: &[Literal], atoms: usize) -> usize
-    requires { atoms ≤ 512 }
     ensures { result ≡ count_by (λ c. is_left atoms c.code) came.now }
 {
     came.iter()
-        .filter(|literal| (literal.code as usize) < 2 * atoms)
+        .filter(|literal| literal.code as usize / 2 < atoms)
         .count()
 }
 
@@ -119,13 +118,7 @@ impl<L: Theory, R: Theory> Pair<L, R> {
         ensures left { result.0 ≡ self.left }
         ensures right { result.1 ≡ self.right }
     {
-        let Pair {
-            left,
-            right,
-            cut: _,
-            sizes: _,
-            stack: _,
-        } = self;
+        let Pair { left, right, .. } = self;
         (left, right)
     }
 }
