@@ -1,5 +1,5 @@
 -- The world of a pair is written in two parts.
-use Rattle.std.proofs.Common.{◌≡◌, ℕ, ◌+◌, ◌-◌, ◌<◌, ◌≤◌, List, [], ◌++◌, length, take, drop, ℤ, sym, ap, ◌∙◌, arith}
+use Rattle.std.proofs.Common.{◌≡◌, ℕ, ◌+◌, ◌-◌, ◌<◌, ◌≤◌, List, ◌++◌, length, take, drop, ℤ, sym, ap, ◌∙◌, arith}
 use borrow.Rule.Slice.PartMut.{put_mid}
 use Rattle.std.proofs.lemmas.List.{append_assoc, append-nil, drop_all, drop_at, drop-drop, length-drop, nil_from_length, take_at, take_rest}
 use Rattle.std.proofs.lemmas.Bool.Decides.{nat_tests}
@@ -23,15 +23,10 @@ both_written : (a b : ℕ) (left right list list₁ list₂ : List ℤ) → leng
 both_written a b left right list list₁ list₂ whole long first second =
     let front : list₁ ≡ left ++ drop a list = first ∙ long_written a left list (omega arith) in
     let part : take (length list₁ - a) (drop a list₁) ≡ drop a list = take_rest list₁ a ∙ ap (drop a) front ∙ drop_at left (drop a list) a whole in
-    let e : list₂ ≡ right ++ drop b (drop a list) =
-    second ∙ ap (world_written b right) part ∙ long_written b right (drop a list) (omega (arith, length-drop a list)) in
+    let back : list₂ ≡ right ++ drop (a + b) list = second ∙ rw part (long_written b right (drop a list) (omega (arith, length-drop a list)) ∙ rw drop-drop) in
+    let none = drop_all (length list₁ - a) (drop a list₁) (omega (arith, length-drop a list₁)) in
     let start : take a list₁ ≡ left = ap (take a) front ∙ take_at left (drop a list) a whole in
-    let none : drop (length list₁ - a) (drop a list₁) ≡ [] = drop_all (length list₁ - a) (drop a list₁) (omega (arith, length-drop a list₁)) in
-    ap (λ xs. xs ++ (list₂ ++ drop (length list₁ - a) (drop a list₁))) start
-    ∙ ap (λ xs. left ++ (list₂ ++ xs)) none
-    ∙ ap (λ xs. left ++ xs) (append-nil list₂ ∙ e ∙ ap (λ xs. right ++ xs) (drop-drop b a list))
-    ∙ sym (append_assoc left right (drop (a + b) list))
-    ∙ sym (long_written (a + b) (left ++ right) list long)
+    rw (start, none, back, append-nil, ← append_assoc) (sym (long_written (a + b) (left ++ right) list long))
 
 pub world_put : {l r : Meaning} {lefts rights codes : List ℕ} {places : ℕ} {cut sizes : Sizes} (left right list : List ℤ) {list₁ list₂ : List ℤ}
     → Together l r lefts rights codes places cut sizes → 0 < sizes.variables → sizes.variables ≤ length list → length left ≡ l.variables

@@ -1,8 +1,9 @@
 -- Worlds of a pair are a world of the left and then one of the right. These are proofs; nothing in them has to be believed.
-use Rattle.std.specs.Prelude.{◌≡◌, ℕ, ◌+◌, ◌-◌, ◌*◌, ◌<◌, Bool, true, false, cond, not, ◌&&◌, List, [], ◌∷◌, ◌++◌, length, take, drop, ℤ, nat_le, refl}
-use Rattle.std.proofs.Common.{⊎_elim, sym, ap, subst, ◌∙◌, arith}
+use Rattle.std.specs.Prelude.{◌≡◌, ℕ, ◌+◌, ◌-◌, ◌*◌, ◌<◌, Bool, true, false, cond, not, List, [], ◌∷◌, ◌++◌, length, take, drop, ℤ, refl}
+use Rattle.std.proofs.Common.{⊎_elim, sym, subst, arith}
 use Rattle.std.proofs.lemmas.List.{length-append, length-drop, length-take-le, take_at, drop_at}
-use Rattle.std.proofs.lemmas.Bool.{and_parts, cases_lt, cond-true, cond-false, le-ltb, leb-true, lt-ltb}
+use Rattle.std.proofs.lemmas.Bool.{cases_lt}
+use Rattle.std.proofs.lemmas.Bool.Decides.{nat_tests}
 use Rattle.std.specs.List.{AllByRecursion}
 use Rattle.theory.specs.declared.Sizes.{Sizes}
 use Rattle.theory.proofs.Apart.{different_few}
@@ -96,24 +97,20 @@ module _ (l r : Meaning) where
         let d = length-drop v world in
         ⊎_elim
         (λ h.
-        cond-true (is_left n (2 * a + 1)) (l.holds (2 * a + 1) front) (r.holds (2 * a + 1 - 2 * n) back) (lt-ltb (2 * a + 1) (2 * n) (omega arith))
-        ∙ hl.one_of_two a h front (length-take-le v world (omega arith))
-        ∙ ap not (sym (cond-true (is_left n (2 * a)) (l.holds (2 * a) front) (r.holds (2 * a - 2 * n) back) (lt-ltb (2 * a) (2 * n) (omega arith)))))
+        let one = hl.one_of_two a h front (length-take-le v world (omega arith)) in
+        grind (arith, nat_tests))
         (λ h.
-        cond-false (is_left n (2 * a + 1)) (l.holds (2 * a + 1) front) (r.holds (2 * a + 1 - 2 * n) back) (le-ltb (2 * a + 1) (2 * n) (omega arith))
-        ∙ ap (λ c. r.holds c back) (omega arith)
-        ∙ hr.one_of_two (a - n) (omega arith) back (omega arith)
-        ∙ ap (λ c. not (r.holds c back)) (omega arith)
-        ∙ ap not (sym (cond-false (is_left n (2 * a)) (l.holds (2 * a) front) (r.holds (2 * a - 2 * n) back) (le-ltb (2 * a) (2 * n) (omega arith)))))
+        let one = hr.one_of_two (a - n) (omega arith) back (omega arith) in
+        let atom : 2 * (a - n) ≡ 2 * a - 2 * n = omega arith in
+        let opposite : 2 * (a - n) + 1 ≡ 2 * a + 1 - 2 * n = omega arith in
+        grind (arith, nat_tests))
         (cases_lt a n)
 
     shown_lawful : (places : ℕ) (b : Bool) → pair_fits places (sizes_of l) (sizes_of r) ≡ b → Lawful (shown_if b l r)
     shown_lawful places true e =
-        let p = and_parts (nat_le (l.atoms + r.atoms) 512) (nat_le (l.variables + r.variables) 512 && nat_le (l.atoms + r.atoms) places) e in
-        let q = and_parts (nat_le (l.variables + r.variables) 512) (nat_le (l.atoms + r.atoms) places) p.1 in
         record {
-          few_atoms = leb-true (l.atoms + r.atoms) 512 p.0;
-          few_variables = leb-true (l.variables + r.variables) 512 q.0;
+          few_atoms = grind (arith, nat_tests);
+          few_variables = grind (arith, nat_tests);
           one_of_two = one_of_two;
         }
     shown_lawful places false e = record { few_atoms = omega arith; few_variables = omega arith; one_of_two = λ a h. absurd (omega arith) }

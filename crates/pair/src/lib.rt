@@ -1,7 +1,7 @@
 // A pair of two theories, again a theory: the left's atoms and variables come first, the right's behind them.
 #![tactic(auto)]
 
-ghost use Rattle.std.specs.Prelude.{◌≡◌, ◌+◌, ◌<◌, ◌≤◌, [], count_by, map, vec_items, vec_capacity};
+ghost use Rattle.std.specs.Prelude.{◌≡◌, ◌+◌, ◌<◌, ◌≤◌, true, [], count_by, map, vec_items, vec_capacity};
 ghost use Rattle.std.specs.List.{AllByRecursion};
 ghost use Rattle.pair.specs.Pairs.{is_left, raised, pair_sizes, RaisedSetBy, Together};
 
@@ -19,16 +19,16 @@ pub struct Pair<L: Theory, R: Theory> {
     // what the pair shows
     sizes: Sizes,
     stack: Stack<Literal>,
-    ghost together: { Together (L.Theory.meaning left) (R.Theory.meaning right) (L.Theory.stack left) (R.Theory.stack right) (map (λ c. c.code) stack.records) stack.places cut sizes },
+    // each side holds what is set of its own
+    pub ghost together: { Together (L.Theory.meaning left) (R.Theory.meaning right) (L.Theory.stack left) (R.Theory.stack right) (map (λ c. c.code) stack.records) stack.places cut sizes },
 }
 
 // How many of the literals are the left's, which has so many atoms.
 fn count_left(came: &[Literal], atoms: usize) -> usize
-    requires { atoms ≤ 512 }
     ensures { result ≡ count_by (λ c. is_left atoms c.code) came.now }
 {
     came.iter()
-        .filter(|literal| (literal.code as usize) < 2 * atoms)
+        .filter(|literal| literal.code as usize / 2 < atoms)
         .count()
 }
 
@@ -89,7 +89,6 @@ fn shown_sizes(left: Sizes, right: Sizes, places: usize) -> Sizes
 impl<L: Theory, R: Theory> Pair<L, R> {
     ghost use Rattle.pair.specs.Held.{codes_of, meaning_of};
     ghost use Rattle.pair.specs.Pairs.{pair_fits, shown_pair, sizes_of, PairExact};
-    ghost use Rattle.std.specs.Prelude.{◌≡◌, true, [], vec_capacity};
 
     // The two theories side by side, with empty stacks, over the places handed in. A pair with too many atoms or variables,
     // or with more atoms than places, shows none.
@@ -119,13 +118,7 @@ impl<L: Theory, R: Theory> Pair<L, R> {
         ensures left { result.0 ≡ self.left }
         ensures right { result.1 ≡ self.right }
     {
-        let Pair {
-            left,
-            right,
-            cut: _,
-            sizes: _,
-            stack: _,
-        } = self;
+        let Pair { left, right, .. } = self;
         (left, right)
     }
 }

@@ -5,7 +5,7 @@ use Rattle.pair.specs.Held.{codes_of}
 use Rattle.pair.proofs.Drops.{Newest, newest, few_lefts, left_went, right_went, dropped_together}
 use Rattle.pair.proofs.PairTheory.retreat.Given.{Over}
 use Rattle.pair.proofs.PairTheory.retreat.Goals as goal
-use Rattle.pair.proofs.PairTheory.retreat.Goals.{After-count_left-lefts, In_err-retreat, In_err-retreat-2}
+use Rattle.pair.proofs.PairTheory.retreat.Goals.{After-count_left-lefts}
 
 -- so many of the newest literals are the left's
 drops : (g : Over) (c : After-count_left-lefts g) → Newest (g.L.Theory.meaning c.args.self.now.left).atoms (codes_of c.args.self.now) c.args.count c.count_left-lefts.result
