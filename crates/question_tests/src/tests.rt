@@ -1,5 +1,6 @@
 use pair::Pair;
 use question::asked::replay::{Answer, Call, Replayed, replay};
+use refusals::Refusal;
 use std::alloc::{AllocError, Global};
 use std::process::Abort;
 use std::test::Fail;
@@ -7,88 +8,37 @@ use theory::Theory;
 use theory::stack::Literal;
 use theory_steps::{difference, equality, switches};
 
-// A call, and the answer to it. A refusal is named by its number.
-#[derive(Clone, Copy)]
-enum Ask<'a> {
-    Post(&'a [u16]),
-    Search(u32),
-    Resume(u32),
-    World,
-    End,
-    Close,
-}
-
-#[derive(Clone, Copy, PartialEq, Eq, Debug)]
-enum Reply<'a> {
-    Refused(u8),
-    Accepted,
-    Found(u32),
-    NoneExist(u32),
-    Paused(u32),
-    World(&'a [i64]),
-    Ended,
-    Closed,
-}
-
-fn post(heap: Global, literals: &[u16]) -> Result<Call, AllocError> {
-    let mut clause = Vec::new(heap);
-    clause.extend_from_slice(literals)?;
-    Ok(Call::Post(clause))
-}
-
-fn call_of(heap: Global, ask: &Ask) -> Result<Call, AllocError> {
-    match ask {
-        Ask::Post(literals) => post(heap, literals),
-        Ask::Search(grant) => Ok(Call::Search(*grant)),
-        Ask::Resume(grant) => Ok(Call::Resume(*grant)),
-        Ask::World => Ok(Call::World),
-        Ask::End => Ok(Call::End),
-        Ask::Close => Ok(Call::Close),
-    }
-}
-
-fn reply_of(answer: &Answer) -> Reply {
-    match answer {
-        Answer::Refused(refusal) => Reply::Refused(refusal.number()),
-        Answer::Accepted => Reply::Accepted,
-        Answer::Found(count) => Reply::Found(*count),
-        Answer::NoneExist(count) => Reply::NoneExist(*count),
-        Answer::Paused(count) => Reply::Paused(*count),
-        Answer::World(numbers) => Reply::World(numbers.as_slice()),
-        Answer::Ended => Reply::Ended,
-        Answer::Closed => Reply::Closed,
-    }
-}
-
 // Posts the clauses, which are all accepted, and then makes the calls.
 fn expect<T: Theory + Drop>(
     rt: &impl Abort,
     heap: Global,
     theory: T,
     clauses: &[&[u16]],
-    rows: &[(Ask, Reply)],
-) -> Result<(), Fail>
-    requires { T.Theory.made theory }
-{
+    rows: &[(Call, Answer)],
+) -> Result<(), Fail> {
     let mut calls = Vec::new(heap);
-    let mut replies = Vec::new(heap);
     for clause in clauses {
-        calls.push(post(heap, clause)?)?;
-        replies.push(Reply::Accepted)?;
+        calls.push(Call::Post(clause))?;
     }
-    for (ask, reply) in rows {
-        calls.push(call_of(heap, ask)?)?;
-        replies.push(*reply)?;
+    for (call, _) in rows {
+        calls.push(*call)?;
     }
-    let Ok(replayed) = replay(heap, theory, calls.as_slice()) else {
-        return Err(Fail::from(AllocError));
-    };
-    let Replayed { answers, theory: _ } = replayed;
-    assert_eq!(rt; answers.len(), replies.len());
-    for i in 0..replies.len() {
-        assert_eq!(rt; reply_of(&answers[i]), replies[i]);
+    let Replayed { answers, theory: _ } = replay(heap, theory, calls.as_slice()).map_err(
+        AllocError::from,
+    )?;
+    assert_eq!(rt; answers.len(), calls.len());
+    for answer in answers.iter().take(clauses.len()) {
+        assert_eq!(rt; *answer, Answer::Accepted);
+    }
+    for (answer, (_, expected)) in answers.iter().skip(clauses.len()).zip(rows) {
+        assert_eq!(rt; answer, expected);
     }
     Ok(())
+}
+
+// The answer that shows a world.
+fn world<const N: usize>(heap: Global, numbers: [i64; N]) -> Result<Answer, AllocError> {
+    Ok(Answer::World(Vec::from_array(heap, numbers)?))
 }
 
 #[test]
@@ -100,8 +50,8 @@ fn verdicts(rt: HostRuntime) -> Result<(), Fail> {
         switches(heap, 2, 2)?,
         &[&[1, 2], &[1, 3]],
         &[
-            (Ask::Search(2), Reply::Found(2)),
-            (Ask::World, Reply::World(&[0, 1])),
+            (Call::Search(2), Answer::Found(2)),
+            (Call::World, world(heap, [0, 1])?),
         ],
     )?;
     expect(
@@ -110,11 +60,11 @@ fn verdicts(rt: HostRuntime) -> Result<(), Fail> {
         switches(heap, 0, 0)?,
         &[],
         &[
-            (Ask::Search(0), Reply::Found(0)),
-            (Ask::World, Reply::World(&[])),
-            (Ask::End, Reply::Ended),
-            (Ask::Post(&[]), Reply::Accepted),
-            (Ask::Search(0), Reply::NoneExist(0)),
+            (Call::Search(0), Answer::Found(0)),
+            (Call::World, world(heap, [])?),
+            (Call::End, Answer::Ended),
+            (Call::Post(&[]), Answer::Accepted),
+            (Call::Search(0), Answer::NoneExist(0)),
         ],
     )
 }
@@ -139,11 +89,11 @@ fn pigeonholes(rt: HostRuntime) -> Result<(), Fail> {
             &[7, 11],
         ],
         &[
-            (Ask::Search(63), Reply::NoneExist(1)),
+            (Call::Search(63), Answer::NoneExist(1)),
             // in parts, to the same verdict and the same total
-            (Ask::Search(0), Reply::Paused(0)),
-            (Ask::Resume(0), Reply::Paused(0)),
-            (Ask::Resume(1), Reply::NoneExist(1)),
+            (Call::Search(0), Answer::Paused(0)),
+            (Call::Resume(0), Answer::Paused(0)),
+            (Call::Resume(1), Answer::NoneExist(1)),
         ],
     )
 }
@@ -181,15 +131,15 @@ fn decisions_granted_one_by_one(rt: HostRuntime) -> Result<(), Fail> {
             &[17, 23],
         ],
         &[
-            (Ask::Search(8), Reply::NoneExist(8)),
-            (Ask::Search(1), Reply::Paused(1)),
-            (Ask::Resume(1), Reply::Paused(1)),
-            (Ask::Resume(1), Reply::Paused(1)),
-            (Ask::Resume(1), Reply::Paused(1)),
-            (Ask::Resume(1), Reply::Paused(1)),
-            (Ask::Resume(1), Reply::Paused(1)),
-            (Ask::Resume(1), Reply::Paused(1)),
-            (Ask::Resume(1), Reply::NoneExist(1)),
+            (Call::Search(8), Answer::NoneExist(8)),
+            (Call::Search(1), Answer::Paused(1)),
+            (Call::Resume(1), Answer::Paused(1)),
+            (Call::Resume(1), Answer::Paused(1)),
+            (Call::Resume(1), Answer::Paused(1)),
+            (Call::Resume(1), Answer::Paused(1)),
+            (Call::Resume(1), Answer::Paused(1)),
+            (Call::Resume(1), Answer::Paused(1)),
+            (Call::Resume(1), Answer::NoneExist(1)),
         ],
     )
 }
@@ -203,12 +153,15 @@ fn clauses_refused(rt: HostRuntime) -> Result<(), Fail> {
         switches(heap, 2, 2)?,
         &[],
         &[
-            (Ask::Post(&[0, 1]), Reply::Refused(9)),
-            (Ask::Post(&[2, 2]), Reply::Refused(9)),
-            (Ask::Post(&[4]), Reply::Refused(8)),
+            (Call::Post(&[0, 1]), Answer::Refused(Refusal::AtomTwice)),
+            (Call::Post(&[2, 2]), Answer::Refused(Refusal::AtomTwice)),
+            (Call::Post(&[4]), Answer::Refused(Refusal::NoSuchAtom)),
             // of several grounds the first counts
-            (Ask::Post(&[0, 0, 65_535]), Reply::Refused(8)),
-            (Ask::Search(2), Reply::Found(2)),
+            (
+                Call::Post(&[0, 0, 65_535]),
+                Answer::Refused(Refusal::NoSuchAtom),
+            ),
+            (Call::Search(2), Answer::Found(2)),
         ],
     )
 }
@@ -223,9 +176,9 @@ fn most_clauses(rt: HostRuntime) -> Result<(), Fail> {
         switches(heap, 1, 1)?,
         &[clause; 256],
         &[
-            (Ask::Post(&[1]), Reply::Refused(10)),
-            (Ask::Post(&[]), Reply::Refused(10)),
-            (Ask::Search(0), Reply::Found(0)),
+            (Call::Post(&[1]), Answer::Refused(Refusal::QuestionFull)),
+            (Call::Post(&[]), Answer::Refused(Refusal::QuestionFull)),
+            (Call::Search(0), Answer::Found(0)),
         ],
     )
 }
@@ -245,11 +198,11 @@ fn most_literals(rt: HostRuntime) -> Result<(), Fail> {
         switches(heap, 512, 512)?,
         &[codes.as_slice(); 4],
         &[
-            (Ask::Post(&[1]), Reply::Refused(10)),
-            (Ask::Search(1), Reply::Paused(1)),
-            (Ask::End, Reply::Ended),
-            (Ask::Post(&[]), Reply::Accepted),
-            (Ask::Search(0), Reply::NoneExist(0)),
+            (Call::Post(&[1]), Answer::Refused(Refusal::QuestionFull)),
+            (Call::Search(1), Answer::Paused(1)),
+            (Call::End, Answer::Ended),
+            (Call::Post(&[]), Answer::Accepted),
+            (Call::Search(0), Answer::NoneExist(0)),
         ],
     )
 }
@@ -263,28 +216,28 @@ fn forbidden_by_the_stage(rt: HostRuntime) -> Result<(), Fail> {
         switches(heap, 2, 2)?,
         &[&[1, 2], &[1, 3]],
         &[
-            (Ask::Resume(1), Reply::Refused(7)),
-            (Ask::World, Reply::Refused(7)),
-            (Ask::End, Reply::Refused(7)),
-            (Ask::Search(1), Reply::Paused(1)),
-            (Ask::Post(&[]), Reply::Refused(7)),
-            (Ask::Search(9), Reply::Refused(7)),
-            (Ask::World, Reply::Refused(7)),
-            (Ask::Close, Reply::Refused(7)),
-            (Ask::Resume(1), Reply::Found(1)),
-            (Ask::Post(&[]), Reply::Refused(7)),
-            (Ask::Search(9), Reply::Refused(7)),
-            (Ask::Resume(9), Reply::Refused(7)),
-            (Ask::Close, Reply::Refused(7)),
-            (Ask::World, Reply::World(&[0, 1])),
-            (Ask::End, Reply::Ended),
-            (Ask::Close, Reply::Closed),
-            (Ask::Post(&[]), Reply::Refused(7)),
-            (Ask::Search(9), Reply::Refused(7)),
-            (Ask::Resume(9), Reply::Refused(7)),
-            (Ask::World, Reply::Refused(7)),
-            (Ask::End, Reply::Refused(7)),
-            (Ask::Close, Reply::Refused(7)),
+            (Call::Resume(1), Answer::Refused(Refusal::StageForbids)),
+            (Call::World, Answer::Refused(Refusal::StageForbids)),
+            (Call::End, Answer::Refused(Refusal::StageForbids)),
+            (Call::Search(1), Answer::Paused(1)),
+            (Call::Post(&[]), Answer::Refused(Refusal::StageForbids)),
+            (Call::Search(9), Answer::Refused(Refusal::StageForbids)),
+            (Call::World, Answer::Refused(Refusal::StageForbids)),
+            (Call::Close, Answer::Refused(Refusal::StageForbids)),
+            (Call::Resume(1), Answer::Found(1)),
+            (Call::Post(&[]), Answer::Refused(Refusal::StageForbids)),
+            (Call::Search(9), Answer::Refused(Refusal::StageForbids)),
+            (Call::Resume(9), Answer::Refused(Refusal::StageForbids)),
+            (Call::Close, Answer::Refused(Refusal::StageForbids)),
+            (Call::World, world(heap, [0, 1])?),
+            (Call::End, Answer::Ended),
+            (Call::Close, Answer::Closed),
+            (Call::Post(&[]), Answer::Refused(Refusal::StageForbids)),
+            (Call::Search(9), Answer::Refused(Refusal::StageForbids)),
+            (Call::Resume(9), Answer::Refused(Refusal::StageForbids)),
+            (Call::World, Answer::Refused(Refusal::StageForbids)),
+            (Call::End, Answer::Refused(Refusal::StageForbids)),
+            (Call::Close, Answer::Refused(Refusal::StageForbids)),
         ],
     )
 }
@@ -304,17 +257,17 @@ fn over_limits(rt: HostRuntime) -> Result<(), Fail> {
         difference(heap, 3, &T, 3)?,
         &[],
         &[
-            (Ask::Search(2), Reply::Paused(2)),
+            (Call::Search(2), Answer::Paused(2)),
             // atom 2 is decided, though its plain literal clashes
-            (Ask::Resume(1), Reply::Found(1)),
-            (Ask::End, Reply::Ended),
-            (Ask::Post(&[0]), Reply::Accepted),
-            (Ask::Post(&[2]), Reply::Accepted),
-            (Ask::Search(10), Reply::Found(1)),
-            (Ask::World, Reply::World(&[-5, -3, 0])),
-            (Ask::End, Reply::Ended),
-            (Ask::Post(&[4]), Reply::Accepted),
-            (Ask::Search(0), Reply::NoneExist(0)),
+            (Call::Resume(1), Answer::Found(1)),
+            (Call::End, Answer::Ended),
+            (Call::Post(&[0]), Answer::Accepted),
+            (Call::Post(&[2]), Answer::Accepted),
+            (Call::Search(10), Answer::Found(1)),
+            (Call::World, world(heap, [-5, -3, 0])?),
+            (Call::End, Answer::Ended),
+            (Call::Post(&[4]), Answer::Accepted),
+            (Call::Search(0), Answer::NoneExist(0)),
         ],
     )
 }
@@ -331,11 +284,11 @@ fn over_a_pair(rt: HostRuntime) -> Result<(), Fail> {
         pair,
         &[&[0], &[6], &[9]],
         &[
-            (Ask::Search(10), Reply::Found(3)),
-            (Ask::World, Reply::World(&[-5, -3, 0, 0, 0, 2])),
-            (Ask::End, Reply::Ended),
-            (Ask::Post(&[8, 10]), Reply::Accepted),
-            (Ask::Search(0), Reply::NoneExist(0)),
+            (Call::Search(10), Answer::Found(3)),
+            (Call::World, world(heap, [-5, -3, 0, 0, 0, 2])?),
+            (Call::End, Answer::Ended),
+            (Call::Post(&[8, 10]), Answer::Accepted),
+            (Call::Search(0), Answer::NoneExist(0)),
         ],
     )
 }

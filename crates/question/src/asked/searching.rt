@@ -78,9 +78,7 @@ impl<T: Theory> Solver<T> {
         if self.theory.set(code, self.conflict.as_mut_slice()).is_err() {
             return false;
         }
-        let Ok(()) = self.assignment.push(Entry { code, mark }) else {
-            unreachable();
-        };
+        self.assignment.push(Entry { code, mark }).unwrap();
         true
     }
 
@@ -91,9 +89,7 @@ impl<T: Theory> Solver<T> {
         ensures unset { IfSome result (λ e. can_set (T.meaning self.new.theory).atoms (codes_of self.new.assignment.trail) e.code ≡ true) }
     {
         let entry = self.assignment.pop()?;
-        let Ok(()) = self.theory.retreat(1) else {
-            unreachable();
-        };
+        self.theory.retreat(1).unwrap();
         Some(entry)
     }
 
