@@ -38,16 +38,14 @@ pub struct Replayed<T> {
     pub theory: T,
 }
 
-// What an outcome says, its pass spent.
-impl From<Outcome> for Answer {
-    ghost from_gives = { λ outcome answer. answer ≡ outcome_answer outcome };
-
-    fn from(outcome: Outcome) -> Answer {
-        match outcome {
-            Outcome::Found(FoundPass(_), count) => Answer::Found(count),
-            Outcome::NoneExist(OpenPass(_), count) => Answer::NoneExist(count),
-            Outcome::Paused(PausedPass(_), count) => Answer::Paused(count),
-        }
+// What an outcome says, its pass spent. Nobody else may do this: a pass could be forgotten.
+fn told(outcome: Outcome) -> Answer
+    ensures { result ≡ outcome_answer outcome }
+{
+    match outcome {
+        Outcome::Found(FoundPass(_), count) => Answer::Found(count),
+        Outcome::NoneExist(OpenPass(_), count) => Answer::NoneExist(count),
+        Outcome::Paused(PausedPass(_), count) => Answer::Paused(count),
     }
 }
 
@@ -70,8 +68,8 @@ impl<T: Theory> Question<T> {
     {
         let answer = match *call {
             Call::Post(clause) => self.replay_post(clause),
-            Call::Search(grant) => answer_of(self.search(OpenPass(0), grant).map(Answer::from)),
-            Call::Resume(grant) => answer_of(self.resume(PausedPass(0), grant).map(Answer::from)),
+            Call::Search(grant) => answer_of(self.search(OpenPass(0), grant).map(told)),
+            Call::Resume(grant) => answer_of(self.resume(PausedPass(0), grant).map(told)),
             Call::World => self.replay_world(heap)?,
             Call::End => answer_of(
                 self.end(EndPass::Paused(PausedPass(0)))
