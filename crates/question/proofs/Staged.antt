@@ -1,14 +1,20 @@
 -- What each call does, by the stage in which it comes.
-use Rattle.std.proofs.Common.{◌≡◌, ℕ, true, List, Some, None, Option, sym, refl, ap, ◌∙◌, subst}
+use Rattle.std.proofs.Common.{◌≡◌, ℕ, true, List, Some, None, Ok, Option, Result, sym, refl, ap, ◌∙◌, subst, arith}
 use Rattle.std.proofs.ByRecursion.{All-push}
 use Rattle.std.proofs.lemmas.Grind.{common_steps}
 use Rattle.refusals.specs.declared.Refusal.{Refusal}
 use Rattle.clauses.specs.Placed.{posted_to}
-use Rattle.steps.specs.Calls.{Call, Post, Search, Resume, World, End, Close, Refused, Posted, Searched, Resumed, Ended, Closed, State, open_with, are_atoms_below, post_ground, refusal, state_after, Does, refused, posted, searched, resumed, read, ended_paused, ended_found, closing}
+use Rattle.steps.specs.Calls.{are_atoms_below, post_ground, refused, posted, searched, resumed, read, ended_paused, ended_found, closing}
 use Rattle.steps.specs.Clauses.{Clause}
+use Rattle.steps.specs.Steps.{Trail}
 use Rattle.steps.proofs.Every.{posted_below}
+use Rattle.theory.specs.Calls.{ground_answer}
 use Rattle.theory.specs.Meaning.{Meaning}
+use Rattle.question.specs.Answers.{PostBy}
 use Rattle.question.specs.Held.{AtomsThere}
+use Rattle.question.specs.Stages.{state_in, stage_after}
+use Rattle.question.specs.declared.Ask.TheVariants as ask
+use Rattle.question.specs.declared.Stage.{Stage}
 
 -- the clauses are over the atoms that there are: still, where the meaning stays, and after a post
 pub still_there : {m m' : Meaning} (clauses : List Clause) → m' ≡ m → AtomsThere m.atoms clauses → AtomsThere m'.atoms clauses
@@ -22,6 +28,12 @@ there_after {atoms = atoms} clauses clause {clauses'} e to h =
     after : (reason : Option Refusal) → post_ground atoms clauses clause ≡ reason → clauses' ≡ posted_to clauses clause reason → AtomsThere atoms clauses'
     after (Some why) is to = subst (AtomsThere atoms) (sym to) h
     after None is to = subst (AtomsThere atoms) (sym to) (All-push (λ c. are_atoms_below atoms c ≡ true) clauses clause h (posted_below atoms clauses clause is))
+
+-- a post does as the ground for refusing it says
+pub posts : (m : Meaning) (clauses : List Clause) (trail : Trail) (s : Stage) (clause : Clause) (clauses' : List Clause) (r : Result (Unit {0}) Refusal) {n : ℕ} {next : Stage}
+    → Ok next ≡ stage_after s ask.Post → n ≡ m.atoms → r ≡ ground_answer (post_ground n clauses clause) → clauses' ≡ posted_to clauses clause (post_ground n clauses clause)
+    → PostBy m (state_in s clauses trail) clause r (state_in s clauses' trail)
+posts m clauses trail s clause clauses' r e atoms answer to = grind (arith, common_steps, posted, refused)
 
 -- what a call may do
 pub ruleset moves = (common_steps, still_there, there_after, refused, posted, searched, resumed, read, ended_paused, ended_found, closing)
