@@ -1,5 +1,5 @@
 -- The rules, as the parts of the search carry them out.
-use Rattle.std.proofs.Common.{◌≡◌, ℕ, suc, ◌+◌, ◌*◌, ◌<◌, Bool, true, false, ◌⊎◌, List, [], ◌∷◌, length, is_some, Option, MatchBool, sym, ap, ◌∙◌, subst, refl, inl, inr, arith}
+use Rattle.std.proofs.Common.{◌≡◌, ℕ, suc, ◌+◌, ◌*◌, Bool, true, false, ◌⊎◌, List, [], ◌∷◌, MatchBool, sym, ap, ◌∙◌, subst, refl, inl, inr, arith}
 use Rattle.std.proofs.lemmas.Grind.{common_steps}
 use Rattle.clauses.specs.Standing.{can_set}
 use Rattle.steps.specs.Clauses.{Clause, opposite, LowestUnset}
@@ -10,7 +10,7 @@ use Rattle.steps.specs.declared.Mark.TheVariants.{Decided, Flipped, Forced}
 use Rattle.steps.proofs.Opposites.{opposite_plain, atom_opposite}
 use Rattle.steps.proofs.Sound.{Fresh, fresh_lowest, other_side}
 use Rattle.theory.specs.Meaning.{Meaning, Lawful, NoWorld, HasWorld}
-use Rattle.question.specs.Turns.{Added, Rejected, Popped, OtherSide, Dropped, BackedUp, Exhausted, DecidedBy}
+use Rattle.question.specs.Turns.{Added, Rejected, OtherSide, Dropped, BackedUp, Exhausted, DecidedBy}
 
 marked : (e : Entry) (mark : Mark) → e.mark ≡ mark → e ≡ entry mark e.code
 marked e mark is = ap (λ m. entry m e.code) is
@@ -21,13 +21,6 @@ fresh_can_set n set c f = grind (arith, common_steps)
 
 pub can_set_opposite : (n : ℕ) (set : List ℕ) (c o : ℕ) → o ≡ opposite c → can_set n set c ≡ true → can_set n set o ≡ true
 can_set_opposite n set c o is h = let e = atom_opposite c in grind (arith, common_steps)
-
--- an entry comes off while there is one
-pub shorter : (t t' : Trail) (o : Option Entry) → is_some o ≡ true → Popped t o t' → length t' < length t
-shorter t t' o s p = grind (arith, common_steps)
-
-pub emptied : (t t' : Trail) (o : Option Entry) → is_some o ≡ false → Popped t o t' → t' ≡ []
-emptied t t' o s p = grind (arith, common_steps)
 
 module _ (m : Meaning) (e : Entry) (trail trail' : Trail) where
   pub flipped_by : (r : Bool) (o : ℕ) → o ≡ opposite e.code → e.mark ≡ Decided → MatchBool r (Added m trail o Flipped trail') (Rejected m trail o trail')

@@ -60,8 +60,7 @@ module _ (m : Meaning) (cs stack : List ℕ) (is : stack ≡ reverse cs) (code :
 
   -- accepted: the stack has it too
   pub grown : (r : Result (Unit {0}) Refusal) → is_err r ≡ false → SetBy m stack conflict code list r stack' list' → stack' ≡ reverse (code ∷ cs)
-  grown (Ok done) e by = by.grown ∙ ap (λ xs. xs ++ (code ∷ [])) is ∙ sym (reverse_first code cs)
-  grown (Err why) e by = absurd (false≢true (sym e))
+  grown r e by = let f = reverse_first code cs in grind (arith, common_steps)
 
 -- a world of the theory's stack is one of the set literals
 pub world_is : {m m' : Meaning} {stack : List ℕ} {world : List ℤ} (cs : List ℕ) → m' ≡ m → stack ≡ reverse cs → WorldOf m' stack world → WorldOf m cs world

@@ -10,7 +10,7 @@ use Rattle.theory.specs.Meaning.{Meaning}
 use Rattle.steps.specs.declared.Mark.TheVariants.{Forced}
 use Rattle.steps.specs.declared.Verdict.{Verdict}
 use Rattle.steps.specs.declared.Verdict.TheVariants.{NoneExist}
-use Rattle.question.proofs.Rules.{fresh_can_set, can_set_opposite, flipped_by, shorter, emptied, backing_start, backing_on, backed_up, exhausted, decided_plain, decided_other}
+use Rattle.question.proofs.Rules.{fresh_can_set, can_set_opposite, flipped_by, backing_start, backing_on, backed_up, exhausted, decided_plain, decided_other}
 use Rattle.question.specs.Held.{AtomsThere}
 use Rattle.question.specs.Turns.{Added, Rejected, Moved, Stopped, TurnBackBy, TurnBy, DecidedBy, CountWithin}
 
@@ -90,4 +90,4 @@ module _ (m m₁ : Meaning) (same : m₁ ≡ m) (clauses : List Clause) (grant :
       let s = subst (λ (n : Meaning). Stopped n clauses grant t k v t') same s₁ in record { last = s.last; steps = steps_append steps s.steps; ends = s.ends }
 
 -- what the parts of a search may come to
-pub ruleset turns = (can_set_opposite, flipped_by, shorter, emptied, backing_start, backing_on, backed_up, exhausted, decided_plain, decided_other, turned_back, count_within, forced, clashed, decided, stopped, fail, found, paused, fresh_can_set, first_due_facts, start_here, turn_more, runs_over, moved_lowers)
+pub ruleset turns = (can_set_opposite, flipped_by, backing_start, backing_on, backed_up, exhausted, decided_plain, decided_other, turned_back, count_within, forced, clashed, decided, stopped, fail, found, paused, fresh_can_set, first_due_facts, start_here, turn_more, runs_over, moved_lowers)
