@@ -1,13 +1,14 @@
-use Rattle.std.proofs.Common.{refl, arith}
+use Rattle.std.proofs.Common.{arith}
 use Rattle.std.proofs.lemmas.Grind.{common_steps}
 use Rattle.steps.specs.Calls.{refused, read}
 use Rattle.steps.specs.Steps.{codes_of}
 use Rattle.theory.specs.Meaning.{WorldOf}
-use Rattle.question.proofs.Sets.{world_is}
+use Rattle.question.specs.Asked.{trail_of, meaning_of}
+use Rattle.question.proofs.Staged.{given_world_is_world}
 use Rattle.question.proofs.asked.Question.world.Goals as goal
 
 pub returns : goal.returns
 returns g c =
-    let s = c.args.self.now.solver in
-    let is : WorldOf (g.T.Theory.meaning s.theory) (codes_of s.assignment.trail) (g.T.Theory.given_world s.theory) = world_is _ refl s.same_stack (g.met.T.Theory.worldly s.theory) in
+    let q = c.args.self.now in
+    let is : WorldOf (meaning_of q) (codes_of (trail_of q)) (g.T.Theory.given_world q.solver.theory) = given_world_is_world q (g.met.T.Theory.worldly q.solver.theory) in
     grind (arith, common_steps, refused, read)
