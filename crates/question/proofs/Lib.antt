@@ -1,5 +1,5 @@
 mod Sets
 mod Rules
-mod Turning
-mod Staged
+pub mod Turning
+pub mod Staged
 mod Replaying

@@ -1,6 +1,6 @@
 -- The rules, as the parts of the search carry them out.
-use Rattle.std.proofs.Common.{◌≡◌, ℕ, suc, ◌+◌, ◌*◌, ◌<◌, Bool, true, false, not, ◌&&◌, ◌⊎◌, ltb, List, [], ◌∷◌, length, is_some, Some, None, Option, MatchBool, sym, ap, ◌∙◌, subst, refl, inl, inr, arith}
-use Rattle.std.proofs.lemmas.Bool.{and_from, lt-ltb, not_from_false, false≢true}
+use Rattle.std.proofs.Common.{◌≡◌, ℕ, suc, ◌+◌, ◌*◌, Bool, true, false, ◌⊎◌, List, [], ◌∷◌, MatchBool, sym, ap, ◌∙◌, subst, refl, inl, inr, arith}
+use Rattle.std.proofs.lemmas.Grind.{common_steps}
 use Rattle.clauses.specs.Standing.{can_set}
 use Rattle.steps.specs.Clauses.{Clause, opposite, LowestUnset}
 use Rattle.steps.specs.Steps.{Trail, looking, backing, codes_of, entry, Step, decide, decide_clash, flip, flip_clash, drop_flipped, drop_forced, Steps, start_here, then}
@@ -9,27 +9,18 @@ use Rattle.steps.specs.declared.Mark.{Mark}
 use Rattle.steps.specs.declared.Mark.TheVariants.{Decided, Flipped, Forced}
 use Rattle.steps.proofs.Opposites.{opposite_plain, atom_opposite}
 use Rattle.steps.proofs.Sound.{Fresh, fresh_lowest, other_side}
-use Rattle.theory.specs.Meaning.{Meaning, Lawful, NoWorld, atom_of, names, HasWorld}
-use Rattle.question.specs.Turns.{Added, Rejected, Popped, OtherSide, Dropped, BackedUp, Exhausted, DecidedBy}
+use Rattle.theory.specs.Meaning.{Meaning, Lawful, NoWorld, HasWorld}
+use Rattle.question.specs.Turns.{Added, Rejected, OtherSide, Dropped, BackedUp, Exhausted, DecidedBy}
 
 marked : (e : Entry) (mark : Mark) → e.mark ≡ mark → e ≡ entry mark e.code
 marked e mark is = ap (λ m. entry m e.code) is
 
 -- whether a literal can be set is a matter of its atom
 pub fresh_can_set : (n : ℕ) (set : List ℕ) (c : ℕ) → Fresh n set c → can_set n set c ≡ true
-fresh_can_set n set c f = and_from (ltb (atom_of c) n) (not (names set (atom_of c))) (lt-ltb (atom_of c) n f.0) (not_from_false (names set (atom_of c)) f.1)
+fresh_can_set n set c f = grind (arith, common_steps)
 
 pub can_set_opposite : (n : ℕ) (set : List ℕ) (c o : ℕ) → o ≡ opposite c → can_set n set c ≡ true → can_set n set o ≡ true
-can_set_opposite n set c o is h = ap (λ a. ltb a n && not (names set a)) (ap atom_of is ∙ atom_opposite c) ∙ h
-
--- an entry comes off while there is one
-pub shorter : (t t' : Trail) (o : Option Entry) → is_some o ≡ true → Popped t o t' → length t' < length t
-shorter t t' None s p = absurd (false≢true s)
-shorter t t' (Some e) s p = omega (arith, ap length p)
-
-pub emptied : (t t' : Trail) (o : Option Entry) → is_some o ≡ false → Popped t o t' → t' ≡ []
-emptied t t' None s p = p.1
-emptied t t' (Some e) s p = absurd (false≢true (sym s))
+can_set_opposite n set c o is h = let e = atom_opposite c in grind (arith, common_steps)
 
 module _ (m : Meaning) (e : Entry) (trail trail' : Trail) where
   pub flipped_by : (r : Bool) (o : ℕ) → o ≡ opposite e.code → e.mark ≡ Decided → MatchBool r (Added m trail o Flipped trail') (Rejected m trail o trail')

@@ -1,8 +1,9 @@
 -- What the theory's answers say of the set literals. The codes are newest first, and the theory's stack has them oldest first.
-use Rattle.std.proofs.Common.{◌≡◌, ℕ, ◌≤◌, true, false, not, ◌||◌, eqb, ltb, leb, List, [], ◌∷◌, ◌++◌, reverse, length, ℤ, is_err, Some, None, Ok, Err, Option, Result, sym, refl, ap, ◌∙◌, subst, arith, MatchOption}
+use Rattle.std.proofs.Common.{◌≡◌, ℕ, ◌≤◌, true, false, ◌||◌, eqb, List, [], ◌∷◌, ◌++◌, reverse, length, ℤ, is_err, Some, None, Ok, Err, Option, Result, sym, refl, ap, ◌∙◌, subst, arith, MatchOption}
 use Rattle.std.proofs.ByRecursion.{All-push}
+use Rattle.std.proofs.lemmas.Grind.{common_steps}
 use Rattle.std.proofs.lemmas.List.{reverse-append, reverse-reverse}
-use Rattle.std.proofs.lemmas.Bool.{and_parts, ltb-true, not-true, lt-leb, le-ltb, cond-false, false≢true}
+use Rattle.std.proofs.lemmas.Bool.{false≢true}
 use Rattle.std.specs.List.{AllByRecursion}
 use Rattle.refusals.specs.Grounds.{clash_count}
 use Rattle.refusals.specs.declared.Refusal.{Refusal}
@@ -24,8 +25,7 @@ names_push (x ∷ cs) c a = let i = names_push cs c a in grind arith
 
 names_reverse : (cs : List ℕ) (a : ℕ) → names (reverse cs) a ≡ names cs a
 names_reverse [] a = refl
-names_reverse (c ∷ cs) a =
-    ap (λ xs. names xs a) (reverse_first c cs) ∙ names_push (reverse cs) c a ∙ ap (λ b. eqb (atom_of c) a || b) (names_reverse cs a)
+names_reverse (c ∷ cs) a = let i = names_reverse cs a in rw (reverse_first c cs, names_push (reverse cs) c a, i)
 
 all_picked : {A : Type 0} (P : A → Type 0) {xs ys : List A} → Picked xs ys → AllByRecursion P ys → AllByRecursion P xs
 all_picked P none h = tt
@@ -35,10 +35,7 @@ all_picked P (skip p) h = all_picked P p h.1
 module _ (m : Meaning) (cs : List ℕ) where
   -- why a literal that can be set is looked at
   looked_at : (code places : ℕ) → can_set m.atoms cs code ≡ true → m.atoms ≤ places → set_ground m.atoms (reverse cs) code places ≡ None
-  looked_at code places h room =
-      let p = and_parts (ltb (atom_of code) m.atoms) (not (names cs (atom_of code))) h in
-      cond-false (leb m.atoms (atom_of code)) _ _ (lt-leb m.atoms (atom_of code) (ltb-true (atom_of code) m.atoms p.0))
-      ∙ cond-false (names (reverse cs) (atom_of code)) _ _ (names_reverse cs (atom_of code) ∙ not-true _ p.1) ∙ cond-false (ltb places m.atoms) _ _ (le-ltb places m.atoms room)
+  looked_at code places h room = let e = names_reverse cs (atom_of code) in grind (arith, common_steps)
 
   module _ (code : ℕ) (list conflict stack' list' : List ℕ) (can : can_set m.atoms cs code ≡ true) (room : m.atoms ≤ length list) where
     clashed : (why : Refusal) (o : Option ℕ) → MatchOption o (NotLookedAt m (reverse cs) code list why stack' list') (λ count. Clashed m (reverse cs) conflict code list count stack' list')
@@ -63,8 +60,7 @@ module _ (m : Meaning) (cs stack : List ℕ) (is : stack ≡ reverse cs) (code :
 
   -- accepted: the stack has it too
   pub grown : (r : Result (Unit {0}) Refusal) → is_err r ≡ false → SetBy m stack conflict code list r stack' list' → stack' ≡ reverse (code ∷ cs)
-  grown (Ok done) e by = by.grown ∙ ap (λ xs. xs ++ (code ∷ [])) is ∙ sym (reverse_first code cs)
-  grown (Err why) e by = absurd (false≢true (sym e))
+  grown r e by = let f = reverse_first code cs in grind (arith, common_steps)
 
 -- a world of the theory's stack is one of the set literals
 pub world_is : {m m' : Meaning} {stack : List ℕ} {world : List ℤ} (cs : List ℕ) → m' ≡ m → stack ≡ reverse cs → WorldOf m' stack world → WorldOf m cs world

@@ -3,12 +3,14 @@ use Rattle.std.proofs.Common.{◌≡◌, ℕ, ◌+◌, ◌<◌, ◌≤◌, List,
 use Rattle.std.specs.declared.ops.ControlFlow.{ControlFlow}
 use Rattle.std.specs.declared.ops.ControlFlow.TheVariants.{Continue, Break}
 use Rattle.steps.specs.Clauses.{Clause}
-use Rattle.steps.specs.Steps.{Trail, Spot, looking, backing, Due, Next, Step, force, force_clash, Steps, start_here, then, Ends, none, Runs}
+use Rattle.steps.specs.Steps.{Trail, Spot, looking, backing, Due, Next, Step, fail, force, force_clash, Steps, start_here, then, Ends, found, paused, none, Runs}
+use Rattle.steps.proofs.Judged.{first_due_facts}
 use Rattle.steps.proofs.Weight.{weight, step_lowers}
 use Rattle.theory.specs.Meaning.{Meaning}
 use Rattle.steps.specs.declared.Mark.TheVariants.{Forced}
 use Rattle.steps.specs.declared.Verdict.{Verdict}
 use Rattle.steps.specs.declared.Verdict.TheVariants.{NoneExist}
+use Rattle.question.proofs.Rules.{fresh_can_set, can_set_opposite, flipped_by, backing_start, backing_on, backed_up, exhausted, decided_plain, decided_other}
 use Rattle.question.specs.Held.{AtomsThere}
 use Rattle.question.specs.Turns.{Added, Rejected, Moved, Stopped, TurnBackBy, TurnBy, DecidedBy, CountWithin}
 
@@ -86,3 +88,6 @@ module _ (m m₁ : Meaning) (same : m₁ ≡ m) (clauses : List Clause) (grant :
       → Runs m clauses grant start v k t'
   runs_over {t} {t'} {k} {v} steps s₁ =
       let s = subst (λ (n : Meaning). Stopped n clauses grant t k v t') same s₁ in record { last = s.last; steps = steps_append steps s.steps; ends = s.ends }
+
+-- what the parts of a search may come to
+pub ruleset turns = (can_set_opposite, flipped_by, backing_start, backing_on, backed_up, exhausted, decided_plain, decided_other, turned_back, count_within, forced, clashed, decided, stopped, fail, found, paused, fresh_can_set, first_due_facts, start_here, turn_more, runs_over, moved_lowers)

@@ -1,4 +1,6 @@
 // The calls of a question.
+#![tactic(auto, using(crate::proofs::Staged::moves))]
+
 ghost use Rattle.std.specs.Prelude.{◌≡◌, [], Ok, Err, MatchResult};
 ghost use Rattle.steps.specs.Calls.{state_after};
 ghost use Rattle.steps.specs.Steps.{Runs};

@@ -1,4 +1,6 @@
 // The search: the step list, carried out.
+#![tactic(auto, using(crate::proofs::Turning::turns))]
+
 ghost use Rattle.std.specs.Prelude.{◌≡◌, ◌≤◌, true, [], reverse, vec_len, IfOk, IfSome, MatchBool, MatchResult};
 ghost use Rattle.clauses.specs.Standing.{can_set};
 ghost use Rattle.steps.specs.Clauses.{LowestUnset};

@@ -7,9 +7,6 @@ pub loop-call-init : goal.loop-call-init
 loop-call-init g c =
     let made = c.in_ok-answers.ensures in record { same = refl; answered = none_yet _ made.items c.requires; count = made.len; room = made.capacity }
 
-pub returns-in_err-perform-clause-same : goal.returns-in_err-perform-clause-same
-returns-in_err-perform-clause-same g c = c.perform.ensures.same ∙ c.loop-call.invariant.same
-
 pub loop-call-preserved : goal.loop-call-preserved
 loop-call-preserved g c =
     let v = c.loop-call.invariant in
