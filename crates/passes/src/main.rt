@@ -46,7 +46,8 @@ struct Report {
     switches: Switches,
 }
 
-// An open question allows a search. The pass comes back only where the stage forbids one, which its contract rules out.
+// An open question allows a search. The pass comes back only where the stage forbids one, which its contract rules out: the
+// type of a question does not tell its stage, so each of these functions has the stage as its premise.
 fn search<T: Theory>(question: &mut Question<T>, pass: OpenPass, grant: u32) -> Outcome
     requires { is_open (state_of question.old) ≡ true }
     ensures { MeetsPass result (state_of question.new) }

@@ -29,7 +29,7 @@ pub enum Ask {
 }
 
 // A pass says that a question's stage allows certain calls. It can be neither copied nor dropped, nor made elsewhere: the
-// calls that change the stage take one and give the next.
+// calls that change the stage take one and give the next. They are three types, so that the compiler tells stages apart.
 pub struct OpenPass(u32);
 
 pub struct PausedPass(u32);

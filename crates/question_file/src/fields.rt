@@ -33,7 +33,7 @@ impl<'a> Reader<'a> {
         Reader { file, offset: 0 }
     }
 
-    // The next field, or nothing at the end of the file.
+    // The next field, or nothing at the end of the file. It may fail, so it is a method for `?` and no iterator.
     pub fn next_field(&mut self) -> Result<Option<Field<'a>>, Fault>
         ensures same { self.new.file ≡ self.old.file }
         ensures found { Begins (drop self.old.offset self.old.file.now) self.old.offset result }

@@ -58,6 +58,7 @@ pub struct Fault {
 }
 
 impl Refusal {
+    // The number by which output and documents name the ground. A clash carries a count, so there is no discriminant to cast.
     pub fn number(&self) -> u8
         ensures { result ≡ number_of self.now }
     {

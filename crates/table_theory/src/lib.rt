@@ -48,7 +48,8 @@ pub trait Procedure {
     fn ask(entry: Self::Entry, code: u16) -> Self::Record
         ensures { result ≡ asked entry code };
 
-    // Writes the solution of the records and answers true, or answers false where they hold together of no world.
+    // Writes the solution of the records and answers true, or answers false where they hold together of no world. The numbers
+    // go into a list that is lent, so only yes or no is answered.
     fn solve(records: &[Self::Record], numbers: &mut [i64]) -> bool
         requires fits { AllByRecursion (Fits (length numbers.old)) records.now }
         requires few { (length records.now ≤ 513) × (length numbers.old ≤ 512) }
@@ -74,7 +75,8 @@ pub struct TableTheory<S: Procedure> {
     ghost settled: { S.solved stack.records variables ≡ true },
 }
 
-// Whether records over so many variables have a solution.
+// Whether records over so many variables have a solution. No call of a theory may ask for memory, so the numbers go into an
+// array of the most that there may be.
 fn have_solution<S: Procedure>(records: &[S::Record], variables: usize) -> bool
     requires fits { AllByRecursion (S.Fits variables) records.now }
     requires few { (length records.now ≤ 513) × (variables ≤ 512) }

@@ -22,7 +22,8 @@ pub struct Sizes {
 // A theory says which literals hold in which worlds, and keeps a stack of set literals that has a world.
 //
 // An implementation is free only in which world and which conflict it gives. `given_world` and `given_conflict` name
-// these choices, so that each call's outcome is an equation.
+// these choices, so that each call's outcome is an equation. That a call leaves the meaning as it was is a clause of each, since
+// a type cannot say it.
 pub trait Theory {
     // how many atoms and variables there are, and which literals hold in which worlds
     ghost meaning: { Self → Meaning };
@@ -41,7 +42,7 @@ pub trait Theory {
         ensures variables { result.variables ≡ (meaning self.now).variables };
 
     // Puts a literal on the end of the stack, or says why not. Where it clashes with the stack, a conflict is written to
-    // the front of the list.
+    // the front of the list: the list is lent, and the refusal tells how much of it is the conflict.
     fn set(&mut self, code: u16, conflict: &mut [u16]) -> Result<(), Refusal>
         ensures same { meaning self.new ≡ meaning self.old }
         ensures by { SetBy (meaning self.old) (stack self.old) (given_conflict self.old code) code conflict.old result (stack self.new) conflict.new };

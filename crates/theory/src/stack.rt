@@ -6,7 +6,8 @@ ghost use Rattle.theory.specs.Meaning.{has, names};
 use refusals::Refusal;
 use std::marker::Model;
 
-// What a theory keeps of a set literal. It knows the literal's code.
+// What a theory keeps of a set literal. It knows the literal's code. A wrapper with the code beside the rest would save these
+// short impls, but would stand between relaxing or joining and their records.
 pub trait Record: Copy {
     ghost coded: { Self → ℕ };
 

@@ -83,7 +83,7 @@ fn world<T: Theory>(
     Ok(answer == expected && fronted(list.as_slice(), numbers, SPARE_NUMBER))
 }
 
-// Whether the step is answered as it should be.
+// Whether the step is answered as it should be. Steps are data of a closed kind, so a match chooses among them.
 fn perform<T: Theory>(heap: Global, theory: &mut T, step: &Step) -> Result<bool, AllocError> {
     match step {
         Step::Set(code) => set(heap, theory, *code, PLACES, Ok(()), &[]),

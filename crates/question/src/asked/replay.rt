@@ -61,7 +61,8 @@ fn answer_of<P: Pass>(taken: Result<Answer, Denied<P>>) -> Answer
 
 impl<T: Theory> Question<T> {
     // Makes a call in whatever stage the question is, with a pass made for it: where the stage forbids the call, the pass
-    // comes back with the refusal. Only the numbers of a world need memory.
+    // comes back with the refusal. Only the numbers of a world need memory. Calls are data of a closed kind, so a match
+    // chooses among them.
     pub fn perform(&mut self, heap: Global, call: &Call) -> Result<Answer, AllocError>
         ensures same { meaning_of self.new ≡ meaning_of self.old }
         ensures by { PerformBy (meaning_of self.old) (state_of self.old) (call_of (meaning_of self.old).variables call.now) result (state_of self.new) }
