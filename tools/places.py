@@ -34,11 +34,11 @@ def bare(text):
 Function = collections.namedtuple('Function', 'path line name head clauses body')
 
 
-def closing(text, at):
-    """where the brace that opens at `at` is closed"""
+def closing(text, at, pair='{}'):
+    """where the brace that opens at `at` is closed, or another pair of brackets"""
     depth = 0
     for i in range(at, len(text)):
-        depth += {'{': 1, '}': -1}.get(text[i], 0)
+        depth += {pair[0]: 1, pair[1]: -1}.get(text[i], 0)
         if depth == 0:
             return i
     return len(text)
@@ -49,16 +49,6 @@ def heading(text, at):
     rest = text[at:]
     end = re.search(r'\brequires\b|\bensures\b|\bwhere\b|[{;]', rest)
     return ' '.join(rest[:end.start()].split())
-
-
-def bracketed(text, at):
-    """where the bracket that opens at `at` is closed"""
-    depth = 0
-    for i in range(at, len(text)):
-        depth += {'(': 1, ')': -1}.get(text[i], 0)
-        if depth == 0:
-            return i
-    return len(text)
 
 
 def functions(path, text):
@@ -159,7 +149,7 @@ def main():
             text = re.sub(r'\.(old|new|now)\b', '', clause)
             for i, mark in enumerate(text):
                 if mark == '(':
-                    term = text[i:bracketed(text, i) + 1]
+                    term = text[i:closing(text, i, '()') + 1]
                     if len(re.findall(r'\w+', term)) >= 3:
                         terms[term].add(f)
     points['5 terms in brackets that stand in the clauses of five functions or more'] = [

@@ -16,22 +16,22 @@ use Rattle.table_theory.specs.declared.Procedure.{Ghosts}
 use Rattle.table_theory.specs.declared.TableTheory.{TableTheory}
 use Rattle.table_theory.proofs.Sound.{Kept, few_records, fit_grown, codes_grown, drawn_grown, no_world}
 
-pub kept_of : {S E R : Type 0} {s : Ghosts S E R} {e : EntryGhosts E} {r : RecordGhosts R}
-    (laws : ProcedureLaws e.checked r.coded s.asked s.Fits s.holds s.solved s.solution) (t : TableTheory S E R s e r)
+pub kept_of : {P E R : Type 0} {s : Ghosts P E R} {e : EntryGhosts E} {r : RecordGhosts R}
+    (laws : ProcedureLaws e.checked r.coded s.asked s.Fits s.holds s.solved s.solution) (t : TableTheory P E R s e r)
     → Kept laws s.spare t.variables (vec_items t.table) t.stack.records
 kept_of {r = r} laws t =
     record { fits = t.fits; apart = different_at (map r.coded t.stack.records) t.apart t.table.ok.0; drawn = t.drawn; settled = t.settled }
 
 -- the ghost fields of the value with another stack
-pub record Fields {S E R : Type 0} {s : Ghosts S E R} {e : EntryGhosts E} {r : RecordGhosts R} (t : TableTheory S E R s e r) (records : List R) (places : ℕ) : Type 0 where
+pub record Fields {P E R : Type 0} {s : Ghosts P E R} {e : EntryGhosts E} {r : RecordGhosts R} (t : TableTheory P E R s e r) (records : List R) (places : ℕ) : Type 0 where
   pub fits : all_entries_fit (fits_by e.checked) t.variables (vec_items t.table) ≡ true
   pub places_left : vec_len t.table ≤ places
   pub apart : different (vec_len t.table) (map r.coded records) ≡ true
   pub drawn : records ≡ records_of s.asked s.spare (vec_items t.table) (map r.coded records)
   pub settled : s.solved records t.variables ≡ true
 
-pub fields_of : {S E R : Type 0} {s : Ghosts S E R} {e : EntryGhosts E} {r : RecordGhosts R}
-    (laws : ProcedureLaws e.checked r.coded s.asked s.Fits s.holds s.solved s.solution) (t : TableTheory S E R s e r) (records : List R) (places : ℕ)
+pub fields_of : {P E R : Type 0} {s : Ghosts P E R} {e : EntryGhosts E} {r : RecordGhosts R}
+    (laws : ProcedureLaws e.checked r.coded s.asked s.Fits s.holds s.solved s.solution) (t : TableTheory P E R s e r) (records : List R) (places : ℕ)
     → places ≡ t.stack.places → Kept laws s.spare t.variables (vec_items t.table) records → Fields t records places
 fields_of {r = r} laws t records places same k =
     record {
@@ -43,14 +43,14 @@ fields_of {r = r} laws t records places same k =
     }
 
 -- A literal that the check has passed: it is there and not set, and there is room for it and for its conflict.
-pub record Passed {S E R : Type 0} {s : Ghosts S E R} {e : EntryGhosts E} {r : RecordGhosts R} (t : TableTheory S E R s e r) (code places : ℕ) : Type 0 where
+pub record Passed {P E R : Type 0} {s : Ghosts P E R} {e : EntryGhosts E} {r : RecordGhosts R} (t : TableTheory P E R s e r) (code places : ℕ) : Type 0 where
   pub reason : set_ground (length (vec_items t.table)) (map r.coded t.stack.records) code places ≡ None
   pub there : atom_of code < length (vec_items t.table)
   pub unset : names (map r.coded t.stack.records) (atom_of code) ≡ false
   pub list_places : length (vec_items t.table) ≤ places
   pub room : length t.stack.records < length (vec_items t.table)
 
-pub passed : {S E R : Type 0} {s : Ghosts S E R} {e : EntryGhosts E} {r : RecordGhosts R} (t : TableTheory S E R s e r) (n code places : ℕ)
+pub passed : {P E R : Type 0} {s : Ghosts P E R} {e : EntryGhosts E} {r : RecordGhosts R} (t : TableTheory P E R s e r) (n code places : ℕ)
     → n ≡ vec_len t.table → ◌≡◌ {A = Result (Unit {0}) Refusal} (Ok tt) (ground_answer (set_ground n (map r.coded t.stack.records) code places))
     → Passed t code places
 passed {r = r} t n code places same h =
@@ -67,8 +67,8 @@ passed {r = r} t n code places same h =
       room = omega (arith, set_room atoms codes code places apart ok, length-map t.stack.records r.coded);
     }
 
-module _ {S E R : Type 0} {s : Ghosts S E R} {e : EntryGhosts E} {r : RecordGhosts R}
-    (laws : ProcedureLaws e.checked r.coded s.asked s.Fits s.holds s.solved s.solution) (t : TableTheory S E R s e r) (code : ℕ) (list : List ℕ)
+module _ {P E R : Type 0} {s : Ghosts P E R} {e : EntryGhosts E} {r : RecordGhosts R}
+    (laws : ProcedureLaws e.checked r.coded s.asked s.Fits s.holds s.solved s.solution) (t : TableTheory P E R s e r) (code : ℕ) (list : List ℕ)
     (p : Passed t code (length list)) where
   -- the record that is asked for
   pub record_read : (entry : E) (asked : R) → entry ≡ get_or (vec_items t.table) (code / 2) entry → asked ≡ s.asked entry code

@@ -64,34 +64,34 @@ pub trait Procedure {
 
 // A table over so many variables, of whose entries a literal sets one or its opposite. What is set always has a solution.
 #[derive(Drop)]
-pub struct TableTheory<S: Procedure> {
+pub struct TableTheory<P: Procedure> {
     variables: usize,
-    table: Vec<S::Entry>,
-    stack: Stack<S::Record>,
-    ghost fits: { all_entries_fit (fits_by S.Entry.checked) variables table.items ≡ true },
+    table: Vec<P::Entry>,
+    stack: Stack<P::Record>,
+    ghost fits: { all_entries_fit (fits_by P.Entry.checked) variables table.items ≡ true },
     ghost places: { vec_len table ≤ stack.places },
-    ghost apart: { different (vec_len table) (map S.Record.coded stack.records) ≡ true },
-    ghost drawn: { stack.records ≡ records_of S.asked S.spare table.items (map S.Record.coded stack.records) },
-    ghost settled: { S.solved stack.records variables ≡ true },
+    ghost apart: { different (vec_len table) (map P.Record.coded stack.records) ≡ true },
+    ghost drawn: { stack.records ≡ records_of P.asked P.spare table.items (map P.Record.coded stack.records) },
+    ghost settled: { P.solved stack.records variables ≡ true },
 }
 
 // Whether records over so many variables have a solution. No call of a theory may ask for memory, so the numbers go into an
 // array of the most that there may be.
-fn have_solution<S: Procedure>(records: &[S::Record], variables: usize) -> bool
-    requires fits { AllByRecursion (S.Fits variables) records.now }
+fn have_solution<P: Procedure>(records: &[P::Record], variables: usize) -> bool
+    requires fits { AllByRecursion (P.Fits variables) records.now }
     requires few { (length records.now ≤ 513) × (variables ≤ 512) }
-    ensures { result ≡ S.solved records.now variables }
+    ensures { result ≡ P.solved records.now variables }
 {
     let mut numbers = [0i64; MOST];
-    S::solve(records, &mut numbers[..variables])
+    P::solve(records, &mut numbers[..variables])
 }
 
-impl<S: Procedure> TableTheory<S> {
+impl<P: Procedure> TableTheory<P> {
     // A theory over the table, with an empty stack over the places handed in. A table that is refused, or that has more
     // entries than there are places, shows as no atoms and no variables.
-    pub fn new(variables: usize, mut table: Vec<S::Entry>, places: Vec<S::Record>) -> Self
-        ensures table { result.table.items ≡ shown_table (fits_by S.Entry.checked) variables table.items (vec_capacity places) }
-        ensures variables { result.variables ≡ shown_variables (fits_by S.Entry.checked) variables table.items (vec_capacity places) }
+    pub fn new(variables: usize, mut table: Vec<P::Entry>, places: Vec<P::Record>) -> Self
+        ensures table { result.table.items ≡ shown_table (fits_by P.Entry.checked) variables table.items (vec_capacity places) }
+        ensures variables { result.variables ≡ shown_variables (fits_by P.Entry.checked) variables table.items (vec_capacity places) }
         ensures empty { result.stack.records ≡ [] }
     {
         let stack = Stack::new(places);
@@ -113,32 +113,32 @@ impl<S: Procedure> TableTheory<S> {
     // Writes the solution of what the set literals ask for to the front of a list.
     pub fn solution(&self, list: &mut [i64]) -> Result<(), Refusal>
         ensures answer { result ≡ world_answer self.now.variables list.old }
-        ensures written { list.new ≡ world_written self.now.variables (S.solution self.now.stack.records self.now.variables) list.old }
-        ensures best { S.Best self.now.variables self.now.table.items self.now.stack.records (S.solution self.now.stack.records self.now.variables) }
+        ensures written { list.new ≡ world_written self.now.variables (P.solution self.now.stack.records self.now.variables) list.old }
+        ensures best { P.Best self.now.variables self.now.table.items self.now.stack.records (P.solution self.now.stack.records self.now.variables) }
     {
         if list.len() < self.variables {
             return Err(Refusal::WorldListShort);
         }
-        S::solve(self.stack.records(), &mut list[..self.variables]);
+        P::solve(self.stack.records(), &mut list[..self.variables]);
         Ok(())
     }
 }
 
-impl<S: Procedure> Theory for TableTheory<S> {
-    ghost meaning = { λ t. table_meaning S.asked S.holds S.spare t.variables t.table.items };
+impl<P: Procedure> Theory for TableTheory<P> {
+    ghost meaning = { λ t. table_meaning P.asked P.holds P.spare t.variables t.table.items };
 
-    ghost stack = { λ t. map S.Record.coded t.stack.records };
+    ghost stack = { λ t. map P.Record.coded t.stack.records };
 
-    ghost given_world = { λ t. S.solution t.stack.records t.variables };
+    ghost given_world = { λ t. P.solution t.stack.records t.variables };
 
     // the new literal and all set literals
-    ghost given_conflict = { λ t code. code ∷ map S.Record.coded t.stack.records };
+    ghost given_conflict = { λ t code. code ∷ map P.Record.coded t.stack.records };
 
-    ghost lawful = { λ t. Laws.lawful S.laws S.spare t.variables t.table.items t.fits };
+    ghost lawful = { λ t. Laws.lawful P.laws P.spare t.variables t.table.items t.fits };
 
-    ghost apart = { λ t. different_at (map S.Record.coded t.stack.records) t.apart t.table.ok.0 };
+    ghost apart = { λ t. different_at (map P.Record.coded t.stack.records) t.apart t.table.ok.0 };
 
-    ghost worldly = { λ t. Laws.worldly S.laws S.spare t.variables t.table.items t.stack.records t.drawn t.settled };
+    ghost worldly = { λ t. Laws.worldly P.laws P.spare t.variables t.table.items t.stack.records t.drawn t.settled };
 
     fn sizes(&self) -> Sizes {
         Sizes {
@@ -149,9 +149,9 @@ impl<S: Procedure> Theory for TableTheory<S> {
 
     fn set(&mut self, code: u16, conflict: &mut [u16]) -> Result<(), Refusal> {
         self.stack.check(self.table.len(), code, conflict.len())?;
-        let record = S::ask(self.table[code as usize / 2], code);
+        let record = P::ask(self.table[code as usize / 2], code);
         self.stack.push(record);
-        if have_solution::<S>(self.stack.records(), self.variables) {
+        if have_solution::<P>(self.stack.records(), self.variables) {
             return Ok(());
         }
         let _ = self.stack.retreat(1);

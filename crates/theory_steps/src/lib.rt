@@ -127,13 +127,13 @@ pub fn run<T: Theory>(heap: Global, theory: &mut T, steps: &[Step]) -> Result<()
 }
 
 // A theory over the entries of the rows, with so many places for its stack.
-fn over<S: Procedure, X: Copy, F: Fn(X) -> S::Entry>(
+fn over<P: Procedure, X: Copy, F: Fn(X) -> P::Entry>(
     heap: Global,
     variables: usize,
     rows: &[X],
     entry: F,
     places: usize,
-) -> Result<TableTheory<S>, AllocError>
+) -> Result<TableTheory<P>, AllocError>
     requires { F.IsAlwaysCallable entry }
 {
     let mut table = Vec::new(heap);
