@@ -1,12 +1,13 @@
 -- Flags for the codes of set literals, as literals are put on and taken off.
-use Rattle.std.proofs.Common.{◌≡◌, ℕ, ◌+◌, ◌*◌, ◌<◌, ◌≤◌, Bool, true, false, ◌||◌, List, [], ◌∷◌, ◌++◌, reverse, length, get_or, set, replicate, refl, ap, ◌∙◌, arith, length-set}
+use Rattle.std.proofs.Common.{◌≡◌, ℕ, ◌+◌, ◌*◌, ◌<◌, ◌≤◌, Bool, true, false, ◌||◌, ltb, List, [], ◌∷◌, ◌++◌, reverse, length, get_or, set, replicate, refl, ap, ◌∙◌, arith, length-set}
 use Rattle.std.proofs.lemmas.List.FromFn.{get_or-map-range_with_len, length-map-range_with_len, fill_by_all}
 use Rattle.std.proofs.lemmas.List.{get_or_read_under, length-replicate, reverse-append, length-map}
 use Rattle.std.proofs.lemmas.Bool.Decides.{nat_tests}
 use Rattle.std.proofs.lemmas.Grind.{common_steps}
+use Rattle.steps.specs.Clauses.{opposite}
 use Rattle.steps.specs.Steps.{Trail, codes_of}
 use Rattle.steps.specs.declared.Entry.{Entry}
-use Rattle.steps.proofs.Judged.{has_names}
+use Rattle.steps.proofs.Judged.{has_names, names_has}
 use Rattle.steps.proofs.Sound.{different_add, different_tail}
 use Rattle.theory.specs.Meaning.{atom_of, has, names, different}
 use Rattle.theory.proofs.Apart.{different_few}
@@ -36,6 +37,10 @@ flags_pop atoms codes c h gone =
     let flags = flags_of atoms (c ∷ codes) in
     fill_by_all (has codes) (set flags c false) (2 * atoms) false (length-set flags c false ∙ length_flags atoms (c ∷ codes))
     (λ k l. grind (arith, common_steps, nat_tests, flag_at atoms (c ∷ codes) k, length_flags atoms (c ∷ codes)))
+
+-- a literal that is not there is not set, nor is its atom's other one
+pub can_set_is : (atoms : ℕ) (codes : List ℕ) (c : ℕ) → has codes c ≡ false → has codes (opposite c) ≡ false → can_set atoms codes c ≡ ltb (atom_of c) atoms
+can_set_is atoms codes c h o = let u = names_has codes c h o in grind (arith, nat_tests, u)
 
 pub can_set_facts : (atoms : ℕ) (codes : List ℕ) (c : ℕ) → can_set atoms codes c ≡ true → (atom_of c < atoms) × (names codes (atom_of c) ≡ false)
 can_set_facts atoms codes c h = grind (arith, nat_tests)

@@ -8,14 +8,15 @@ use Rattle.std.proofs.lemmas.Int.{ints}
 use Rattle.std.proofs.lemmas.Bool.{cond_both, eq-eqb, ne_eqb, not-true, not_from_false}
 use Rattle.std.proofs.lemmas.Bool.Decides.{nat_tests}
 use Rattle.tables.specs.declared.DifferenceEntry.{DifferenceEntry}
-use Rattle.tables.specs.Entries.{difference_fits, difference_check}
+use Rattle.tables.specs.Entries.{difference_fits, difference_check, all_entries_fit}
 use Rattle.relaxing.specs.declared.Limit.{Limit}
 use Rattle.relaxing.specs.Limits.{at, Met, Fits, moves, latest}
 use Rattle.relaxing.proofs.Finding.{latest_when_still, latest_from_met, length_latest}
 use Rattle.relaxing.proofs.Passes.{met_still}
 use Rattle.table_theory.specs.Drawing.{record_of, records_of, AllRecordsHold, ProcedureLaws}
-use Rattle.table_theory.specs.Laws.{worldly}
+use Rattle.table_theory.specs.Laws as laws
 use Rattle.theory.proofs.Drawn.{all_records}
+use Rattle.theory.specs.Meaning.{Lawful, WorldOf, AllHold}
 use Rattle.difference.specs.Differences.{spare_entry, entry_limit, limit_holds, have_times, difference_meaning, LatestWorld, codes_of}
 
 -- What a limit says is what its literal means.
@@ -114,10 +115,26 @@ pub latest_world : (variables : ℕ) (table : List DifferenceEntry) (limits : Li
 latest_world variables table limits drawn fit h =
     let l = latest_when_still limits variables (still limits variables h) in
     record {
-      is_world = worldly limit_laws spare_entry variables table limits drawn h;
+      is_world = laws.worldly limit_laws spare_entry variables table limits drawn h;
       not_above = l.not_above;
       latest_of_all = λ other w n x short.
           l.latest_of_all other (w.whole ∙ sym (length_latest limits variables)) n
           (all_met limits other (all_records (λ (l : Limit). l.code) (record_of entry_limit spare_entry table) limits drawn (λ l. limit_holds l other ≡ true) w.all_hold))
           x short;
     }
+
+-- The interface's laws, over limits and their latest times.
+
+pub lawful : (variables : ℕ) (table : List DifferenceEntry) → all_entries_fit difference_fits variables table ≡ true → Lawful (difference_meaning variables table)
+lawful variables table h = laws.lawful limit_laws spare_entry variables table h
+
+module _ (variables : ℕ) (table : List DifferenceEntry) (limits : List Limit) (drawn : limits ≡ records_of entry_limit spare_entry table (codes_of limits)) where
+  -- a world that meets the set limits is one of the set literals
+  pub all_hold : (world : List ℤ) → AllByRecursion (Met world) limits → AllHold (difference_meaning variables table) (codes_of limits) world
+  all_hold world m =
+      laws.all_hold limit_laws spare_entry variables table limits drawn world (All-weaker (Met world) (λ l. limit_holds l world ≡ true) (met_holds world) limits m)
+
+  -- the latest times are a world of the set literals
+  pub worldly : moves limits (latest limits variables) ≡ false
+      → WorldOf (difference_meaning variables table) (codes_of limits) (latest limits variables)
+  worldly h = laws.worldly limit_laws spare_entry variables table limits drawn (not_from_false (moves limits (latest limits variables)) h)

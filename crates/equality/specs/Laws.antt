@@ -8,9 +8,10 @@ use Rattle.joining.proofs.Labelled.{length_labelled, holds_labelled, agrees_from
 use Rattle.joining.specs.declared.Join.{Join}
 use Rattle.joining.specs.Joins.{Fits, labelled}
 use Rattle.table_theory.specs.Drawing.{records_of, ProcedureLaws}
-use Rattle.table_theory.specs.Laws.{worldly}
+use Rattle.table_theory.specs.Laws as laws
 use Rattle.tables.specs.declared.EqualityEntry.{EqualityEntry}
 use Rattle.tables.specs.Entries.{equality_check, equality_fits}
+use Rattle.theory.specs.Meaning.{WorldOf}
 use Rattle.equality.specs.Equalities.{spare_entry, entry_join, holds_in, equality_meaning, have_numbers, LowestWorld}
 
 one_of_two : (e : EqualityEntry) (a : ℕ) (world : List ℤ) → holds_in (entry_join e (2 * a + 1)) world ≡ not (holds_in (entry_join e (2 * a)) world)
@@ -34,4 +35,10 @@ pub lowest_world : (variables : ℕ) (table : List EqualityEntry) (joins : List 
     → joins ≡ records_of entry_join spare_entry table (map (λ (j : Join). j.code) joins) → AllByRecursion (Fits variables) joins → have_numbers joins variables ≡ true
     → LowestWorld (equality_meaning variables table) joins (labelled joins variables)
 lowest_world variables table joins drawn fit h =
-    record { is_world = worldly join_laws spare_entry variables table joins drawn h; lowest = lowest_labelled joins variables fit }
+    record { is_world = laws.worldly join_laws spare_entry variables table joins drawn h; lowest = lowest_labelled joins variables fit }
+
+-- the labels of the set joins are a world of the set literals
+pub worldly : (variables : ℕ) (table : List EqualityEntry) (joins : List Join)
+    → joins ≡ records_of entry_join spare_entry table (map (λ (j : Join). j.code) joins) → have_numbers joins variables ≡ true
+    → WorldOf (equality_meaning variables table) (map (λ (j : Join). j.code) joins) (labelled joins variables)
+worldly variables table joins drawn settled = laws.worldly join_laws spare_entry variables table joins drawn settled

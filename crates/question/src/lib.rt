@@ -17,7 +17,7 @@ pub enum Stage {
     Closed,
 }
 
-// A call, as far as the stage is concerned.
+// A call, as far as the stage is concerned: without what it carries, which no stage looks at.
 #[derive(Clone, Copy, PartialEq, Eq, Debug)]
 pub enum Ask {
     Post,
@@ -29,7 +29,8 @@ pub enum Ask {
 }
 
 // A pass says that a question's stage allows certain calls. It can be neither copied nor dropped, nor made elsewhere: the
-// calls that change the stage take one and give the next. They are three types, so that the compiler tells stages apart.
+// calls that change the stage take one and give the next. They are three plain types: one type with a parameter
+// for the stage would need a marker type for each, and would say no more.
 pub struct OpenPass(u32);
 
 pub struct PausedPass(u32);
@@ -88,7 +89,7 @@ pub struct Denied<P> {
 }
 
 // The stage that a call leads to, or the refusal where the stage does not allow it. A search leaves its question paused
-// until its verdict is known.
+// until its verdict is known. Stage and call decide together, so this is one match.
 fn next_stage(stage: Stage, ask: Ask) -> Result<Stage, Refusal>
     ensures { result ≡ stage_after stage ask }
 {

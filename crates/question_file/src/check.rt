@@ -47,6 +47,7 @@ struct Progress {
     counts: Counts,
 }
 
+// Here bytes become kinds, so a match names each.
 impl TryFrom<u8> for Tag {
     type Error = Refusal;
 
@@ -136,7 +137,7 @@ impl Counts {
         Ok(entries + 1)
     }
 
-    // These counts with one field more.
+    // These counts with one field more. There are four kinds of fields, so a match chooses.
     fn with_field(self, tag: Tag, body: &[u8], room: Room) -> Result<Counts, Refusal>
         requires { self.clauses + 1 < 2 ^ 64 }
         ensures { result ≡ count_field room self tag body.now }

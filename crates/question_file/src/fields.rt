@@ -20,7 +20,7 @@ pub struct Field<'a> {
 #[derive(Drop)]
 pub struct Reader<'a> {
     file: &'a [u8],
-    // where the next field would begin
+    // where the next field would begin, which faults tell; so the file stays whole
     offset: usize,
     ghost within: { offset ≤ length file.now },
 }

@@ -302,7 +302,7 @@ mod tests {
         Ok(())
     }
 
-    // a file with so many switches, difference entries and equality entries
+    // a file with so many switches, difference entries and equality entries; the loops only repeat, and index nothing
     fn file_of(
         heap: Global,
         switches: u16,

@@ -187,10 +187,8 @@ fn most_clauses(rt: HostRuntime) -> Result<(), Fail> {
 fn most_literals(rt: HostRuntime) -> Result<(), Fail> {
     let heap = rt.alloc();
     let mut codes = Vec::new(heap);
-    for code in 0..1024u16 {
-        if code % 2 == 0 {
-            codes.push(code)?;
-        }
+    for atom in 0..512u16 {
+        codes.push(2 * atom)?;
     }
     expect(
         &rt,

@@ -1,2 +1,2 @@
-mod Sound
+pub mod Sound
 mod Values

@@ -26,22 +26,24 @@ module _ {E R : Type 0} {checked : ℕ → E → Result (Unit {0}) Refusal} {cod
     pub drawn : records ≡ records_of asked spare table (map coded records)
     pub settled : solved records variables ≡ true
 
-  module _ {records : List R} (k : Kept records) where
+  -- a literal of an entry that the table takes asks for a record that fits
+  module _ (taken : all_entries_fit (fits_by checked) variables table ≡ true) where
     fit_at : (atom : ℕ) → atom < length table → fits_by checked variables (slice_index_or table atom spare) ≡ true
     fit_at atom l =
         let fits = fits_by checked variables in
-        let p = and_parts (leb variables most) (leb (length table) most && all_fit fits table) k.fits in
+        let p = and_parts (leb variables most) (leb (length table) most && all_fit fits table) taken in
         let q = and_parts (leb (length table) most) (all_fit fits table) p.1 in
         All-get_or (λ e. fits e ≡ true) table atom spare l
         ((Decides-by_and fits (λ e. fits e ≡ true) (all_fit fits) (λ e. (λ t. t, λ t. t)) refl (λ _ _. refl) table).0 q.1)
 
-    record_fits : (code : ℕ) → atom_of code < length table → Fits variables (draw code)
+    pub record_fits : (code : ℕ) → atom_of code < length table → Fits variables (draw code)
     record_fits code l = laws.asked_fits variables (slice_index_or table (atom_of code) spare) code (fit_at (atom_of code) l)
 
+  module _ {records : List R} (k : Kept records) where
     pub records_fit : AllByRecursion (Fits variables) records
     records_fit =
         all_records coded draw records k.drawn (Fits variables)
-        (All-weaker (λ code. atom_of code < length table) (λ code. Fits variables (draw code)) record_fits (map coded records)
+        (All-weaker (λ code. atom_of code < length table) (λ code. Fits variables (draw code)) (record_fits k.fits) (map coded records)
         (different_below (length table) (map coded records) k.apart))
 
     pub few_records : length records ≤ 512
@@ -59,7 +61,7 @@ module _ {E R : Type 0} {checked : ℕ → E → Result (Unit {0}) Refusal} {cod
     drawn_grown code = drawn_push coded draw records k.drawn code (coded_draw code)
 
     pub fit_grown : (code : ℕ) → atom_of code < length table → AllByRecursion (Fits variables) (records ++ (draw code ∷ []))
-    fit_grown code l = All-push (Fits variables) records (draw code) records_fit (record_fits code l)
+    fit_grown code l = All-push (Fits variables) records (draw code) records_fit (record_fits k.fits code l)
 
     -- where the records with the new one have no solution, the literals have no world
     pub no_world : (code : ℕ) → atom_of code < length table → solved (records ++ (draw code ∷ [])) variables ≡ false

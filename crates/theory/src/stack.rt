@@ -122,7 +122,8 @@ impl<R: Record> Stack<R> {
         Ok(())
     }
 
-    // Writes a code and then the codes of all records to the front of a list, and answers how many that are.
+    // Writes a code and then the codes of all records to the front of a list, and answers how many that are. The first code
+    // stands before the records', so each of these goes one place further on.
     pub fn write_codes(&self, first: u16, list: &mut [u16]) -> usize
         requires { length self.now.records < length list.old }
         ensures count { result ≡ length self.now.records + 1 }

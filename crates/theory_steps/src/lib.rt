@@ -58,6 +58,22 @@ fn fronted<X: Copy + PartialEq>(list: &[X], front: &[X], spare: X) -> bool {
     }
 }
 
+// Whether a call that writes to a list of so many places answers as expected, and writes this front and nothing behind it.
+fn answers<X: Copy + PartialEq, F: FnOnce(&mut [X]) -> Result<(), Refusal>>(
+    heap: Global,
+    call: F,
+    places: usize,
+    spare: X,
+    expected: Result<(), Refusal>,
+    front: &[X],
+) -> Result<bool, AllocError>
+    requires { F.IsAlwaysCallable call }
+{
+    let mut list = vec![in heap; spare; places]?;
+    let answer = call(list.as_mut_slice());
+    Ok(answer == expected && fronted(list.as_slice(), front, spare))
+}
+
 fn set<T: Theory>(
     heap: Global,
     theory: &mut T,
@@ -66,9 +82,14 @@ fn set<T: Theory>(
     expected: Result<(), Refusal>,
     conflict: &[u16],
 ) -> Result<bool, AllocError> {
-    let mut list = vec![in heap; SPARE_CODE; places]?;
-    let answer = theory.set(code, list.as_mut_slice());
-    Ok(answer == expected && fronted(list.as_slice(), conflict, SPARE_CODE))
+    answers(
+        heap,
+        |list| theory.set(code, list),
+        places,
+        SPARE_CODE,
+        expected,
+        conflict,
+    )
 }
 
 fn world<T: Theory>(
@@ -78,9 +99,14 @@ fn world<T: Theory>(
     expected: Result<(), Refusal>,
     numbers: &[i64],
 ) -> Result<bool, AllocError> {
-    let mut list = vec![in heap; SPARE_NUMBER; places]?;
-    let answer = theory.world(list.as_mut_slice());
-    Ok(answer == expected && fronted(list.as_slice(), numbers, SPARE_NUMBER))
+    answers(
+        heap,
+        |list| theory.world(list),
+        places,
+        SPARE_NUMBER,
+        expected,
+        numbers,
+    )
 }
 
 // Whether the step is answered as it should be. Steps are data of a closed kind, so a match chooses among them.

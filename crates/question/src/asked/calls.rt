@@ -69,7 +69,8 @@ impl<T: Theory> Question<T> {
         Ok(self.conclude(grant))
     }
 
-    // Goes on with a paused search, with so many more decisions granted. It and `search` share all but the pass and the stage.
+    // Goes on with a paused search, with so many more decisions granted. It and `search` are two public calls of two lines, over
+    // what they share.
     pub fn resume(&mut self, pass: PausedPass, grant: u32) -> Result<Outcome, Denied<PausedPass>>
         ensures same { meaning_of self.new ≡ meaning_of self.old }
         ensures by { ResumeBy (meaning_of self.old) (state_of self.old) grant pass result (state_of self.new) }

@@ -15,7 +15,8 @@ use std::ops::ControlFlow;
 use steps::{Entry, Mark, Verdict};
 use theory::{Theory, retreat_all};
 
-// A theory with the literals that are set in it, and the list that it writes conflicts to.
+// A theory with the literals that are set in it, and the list that it writes conflicts to. That a method leaves what the theory
+// means is a clause of each, here and on questions, since no type compares before and after.
 pub struct Solver<T: Theory> {
     pub(super) theory: T,
     pub(super) assignment: Assignment,
