@@ -16,7 +16,8 @@ pub fn opposite(code: u16) -> u16
     if code % 2 == 0 { code + 1 } else { code - 1 }
 }
 
-// The set literals, oldest first, which are of different atoms. The flags tell in one look whether a literal is set.
+// The set literals, oldest first, which are of different atoms. The flags stand beside them: with a value for each atom in their
+// place, nothing would be plainer, and every look and every proof would have the cases of a value.
 #[derive(Drop)]
 pub struct Assignment {
     atoms: u16,

@@ -58,8 +58,8 @@ fn agrees_with(join: Join, labels: &[i64]) -> bool
 }
 
 // Writes for every variable the lowest variable that equalities join to it, itself included. Answers whether all joins
-// hold of these numbers; where not, they hold of no numbers. The numbers go into a list that is lent, so only yes or no is
-// answered.
+// hold of these numbers; where not, they hold of no numbers. An error would carry nothing, so a `Result` would say no more
+// than yes or no.
 pub fn join_all(joins: &[Join], labels: &mut [i64]) -> bool
     requires fits { AllByRecursion (Fits (length labels.old)) joins.now }
     requires few { length labels.old ≤ 512 }

@@ -56,7 +56,8 @@ fn relax_pass(limits: &[Limit], times: &mut [i64]) -> bool
 
 // Writes the latest times that meet the limits, none above zero, and answers true; or answers false where no times meet
 // them, and leaves what the last pass made of them. A cycle of limits whose sum is below zero has no times; it shows by a
-// change in as many passes as there are times. The times go into a list that is lent, so only yes or no is answered.
+// change in as many passes as there are times. An error would carry nothing,
+// so a `Result` would say no more than yes or no.
 pub fn relax(limits: &[Limit], times: &mut [i64]) -> bool
     requires fits { AllByRecursion (Fits (length times.old)) limits.now }
     requires few { (length limits.now ≤ 513) × (length times.old ≤ 512) }

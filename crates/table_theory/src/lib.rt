@@ -48,8 +48,8 @@ pub trait Procedure {
     fn ask(entry: Self::Entry, code: u16) -> Self::Record
         ensures { result ≡ asked entry code };
 
-    // Writes the solution of the records and answers true, or answers false where they hold together of no world. The numbers
-    // go into a list that is lent, so only yes or no is answered.
+    // Writes the solution of the records and answers true, or answers false where they hold together of no world. An error
+    // would carry nothing, so a `Result` would say no more than yes or no.
     fn solve(records: &[Self::Record], numbers: &mut [i64]) -> bool
         requires fits { AllByRecursion (Fits (length numbers.old)) records.now }
         requires few { (length records.now ≤ 513) × (length numbers.old ≤ 512) }

@@ -19,9 +19,10 @@ use std::alloc::{AllocFailed, Global};
 use steps::Verdict;
 use theory::Theory;
 
+// That a call leaves what the theory means is a clause of each, since no type compares before and after.
 impl<T: Theory> Question<T> {
     // Opens a question over a theory, whose stack is emptied. All memory is reserved here; for want of it the theory is
-    // given back as it was.
+    // given back as it was: it outlives the call that failed, so `?` alone does not do.
     pub fn open(heap: Global, theory: T) -> Result<(Question<T>, OpenPass), AllocFailed<T>>
         ensures { OpenBy T.Theory theory result }
     {

@@ -121,7 +121,8 @@ impl<T: Theory> Question<T> {
     }
 }
 
-// Opens a question over the theory and makes the calls one after another. For want of memory only the theory comes back.
+// Opens a question over the theory and makes the calls one after another. For want of memory only the theory comes back: it
+// outlives the call that failed, so `?` alone does not do.
 pub fn replay<T: Theory>(
     heap: Global,
     theory: T,

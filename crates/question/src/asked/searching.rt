@@ -16,7 +16,7 @@ use steps::{Entry, Mark, Verdict};
 use theory::{Theory, retreat_all};
 
 // A theory with the literals that are set in it, and the list that it writes conflicts to. That a method leaves what the theory
-// means is a clause of each, here and on questions, since no type compares before and after.
+// means is a clause of each, since no type compares before and after.
 pub struct Solver<T: Theory> {
     pub(super) theory: T,
     pub(super) assignment: Assignment,
@@ -42,7 +42,8 @@ fn reserve(heap: Global, atoms: u16) -> Result<(Assignment, Vec<u16>), AllocErro
 }
 
 impl<T: Theory> Solver<T> {
-    // Empties the theory's stack. For want of memory the theory is given back as it was.
+    // Empties the theory's stack. For want of memory the theory is given back as it was: it outlives the call that failed, so
+    // `?` alone does not do.
     pub fn new(heap: Global, theory: T) -> Result<Solver<T>, AllocFailed<T>>
         ensures { MatchResult result (λ s. (T.meaning s.theory ≡ T.meaning theory) × (s.assignment.trail ≡ [])) (λ back. back.value ≡ theory) }
     {
