@@ -1,7 +1,7 @@
 // The difference theory: limits on the differences of times.
 #![tactic(auto)]
 
-ghost use Rattle.relaxing.specs.Limits.{Fits, latest};
+ghost use Rattle.relaxing.specs.Limits.{Fits, pass, latest};
 ghost use Rattle.difference.specs.Differences.{spare_entry, entry_limit, limit_holds, have_times, difference_meaning, LatestWorld, codes_of};
 ghost use Rattle.difference.specs.Laws;
 
@@ -32,6 +32,9 @@ impl Procedure for LatestTimes {
     ghost solved = { have_times };
 
     ghost solution = { latest };
+
+    // what one more pass makes of them
+    ghost remains = { λ limits variables. pass limits (latest limits variables) };
 
     ghost Best = { λ variables table limits times. LatestWorld (difference_meaning variables table) (codes_of limits) times };
 

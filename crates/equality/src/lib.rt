@@ -33,6 +33,8 @@ impl Procedure for LowestJoined {
 
     ghost solution = { labelled };
 
+    ghost remains = { labelled };
+
     ghost Best = { λ variables table joins labels. LowestWorld (equality_meaning variables table) joins labels };
 
     ghost laws = { Laws.join_laws };

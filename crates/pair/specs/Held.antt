@@ -1,5 +1,5 @@
 -- What a pair shows, by its fields.
-use Rattle.std.specs.Prelude.{ℕ, List, map, ℤ, vec_items, vec_capacity}
+use Rattle.std.specs.Prelude.{ℕ, List, map, ℤ}
 use Rattle.theory.specs.declared.Theory.{Ghosts}
 use Rattle.theory.specs.Meaning.{Meaning}
 use Rattle.pair.specs.declared.Pair.{Pair}

@@ -1,5 +1,5 @@
 -- Calls and answers as data, and which events they are.
-use Rattle.std.specs.Prelude.{◌≡◌, ℕ, List, [], ◌∷◌, map, reverse, ℤ, Some, None, Ok, Err, vec_items, Option, Result}
+use Rattle.std.specs.Prelude.{◌≡◌, ◌⊎◌, ℕ, List, [], ◌∷◌, map, reverse, ℤ, Some, None, Ok, Err, vec_items, Option, Result}
 use Rattle.std.specs.declared.alloc.AllocFailed.{AllocFailed}
 use Rattle.steps.specs.Calls.{Call, Post, Search, Resume, World, End, Close, Event, Refused, Posted, Searched, Resumed, Read, Ended, Closed, State, Does, History}
 use Rattle.steps.specs.Promises.{AllRight}
@@ -86,9 +86,10 @@ pub record Performed (m : Meaning) (s : State) (c : Call) (a : Answer) (s' : Sta
   pub told : event_of c a ≡ Some event
   pub does : Does m s event s'
 
+-- for want of memory a call changes nothing
 abbrev pub PerformBy : {E : Type 0} → Meaning → State → Call → Result Answer E → State → Type 0
 PerformBy m s c (Ok a) s' = Performed m s c a s'
-PerformBy m s c (Err e) s' = Unit {0}
+PerformBy m s c (Err e) s' = s' ≡ s
 
 -- answers to calls, one for each, as events, oldest first
 abbrev pub TellsAll : List Call → List Answer → List Event → Type 0
@@ -114,6 +115,7 @@ pub record ReplayedRight {T : Type 0} (theory : Ghosts T) (t : T) (calls : List 
   pub same : theory.meaning done.theory ≡ theory.meaning t
   pub empty : theory.stack done.theory ≡ []
 
+-- for want of memory only the theory comes back: as it was, or with the same meaning and nothing set
 abbrev pub ReplayBy : {T : Type 0} → Ghosts T → T → List data_call.Call → Result (Replayed T) (AllocFailed T) → Type 0
 ReplayBy theory t calls (Ok done) = ReplayedRight theory t calls done
-ReplayBy theory t calls (Err back) = theory.meaning back.value ≡ theory.meaning t
+ReplayBy theory t calls (Err back) = (back.value ≡ t) ⊎ ((theory.meaning back.value ≡ theory.meaning t) × (theory.stack back.value ≡ []))

@@ -2,7 +2,7 @@
 // there is a world as the set literals ask.
 #![tactic(auto)]
 
-ghost use Rattle.std.specs.Prelude.{◌≡◌, ℕ, ◌≤◌, true, Bool, List, [], ◌∷◌, map, length, ℤ, vec_len, vec_capacity};
+ghost use Rattle.std.specs.Prelude.{◌≡◌, ℕ, ◌≤◌, true, Bool, if◌then◌else◌, List, [], ◌∷◌, map, length, ℤ, vec_len, vec_capacity};
 ghost use Rattle.std.specs.List.{AllByRecursion};
 ghost use Rattle.tables.specs.Entries.{all_entries_fit};
 ghost use Rattle.theory.specs.Calls.{world_answer, world_written};
@@ -42,19 +42,22 @@ pub trait Procedure {
 
     ghost solution: { List Self.Record → ℕ → List ℤ };
 
+    // what is left in the list where they do not
+    ghost remains: { List Self.Record → ℕ → List ℤ };
+
     // what is promised of the solution among all worlds: of so many variables, a table and records of it
     ghost Best: { ℕ → List Self.Entry → List Self.Record → List ℤ → Type 0 };
 
     fn ask(entry: Self::Entry, code: u16) -> Self::Record
         ensures { result ≡ asked entry code };
 
-    // Writes the solution of the records and answers true, or answers false where they hold together of no world. An error
-    // would carry nothing, so a `Result` would say no more than yes or no.
+    // Writes the solution of the records and answers true, or answers false where they hold together of no world, and leaves
+    // numbers of its own. An error would carry nothing, so a `Result` would say no more than yes or no.
     fn solve(records: &[Self::Record], numbers: &mut [i64]) -> bool
         requires fits { AllByRecursion (Fits (length numbers.old)) records.now }
         requires few { (length records.now ≤ 513) × (length numbers.old ≤ 512) }
         ensures solved { result ≡ solved records.now (length numbers.old) }
-        ensures written { result ≡ true → numbers.new ≡ solution records.now (length numbers.old) };
+        ensures written { numbers.new ≡ (if solved records.now (length numbers.old) then solution records.now (length numbers.old) else remains records.now (length numbers.old)) };
 
     ghost laws: { ProcedureLaws Self.Entry.checked Self.Record.coded asked Fits holds solved solution };
 

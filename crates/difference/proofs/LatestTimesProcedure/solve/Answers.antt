@@ -1,4 +1,4 @@
-use Rattle.std.proofs.Common.{◌≡◌, ℕ, Bool, true, false, List, length, ℤ, MatchBool, sym, subst, inl, inr}
+use Rattle.std.proofs.Common.{◌≡◌, ℕ, Bool, true, false, List, length, ℤ, MatchBool, cond, sym, ap, ◌∙◌, subst, inl, inr}
 use Rattle.std.proofs.lemmas.Bool.{cases_Bool, not-true, not_from_false}
 use Rattle.relaxing.specs.declared.Limit.{Limit}
 use Rattle.relaxing.specs.Limits.{Latest, NoTimes, moves, pass, latest}
@@ -19,3 +19,15 @@ told false limits times n none a =
 
 pub returns-clause-solved : goal.returns-clause-solved
 returns-clause-solved c = told c.relax.result c.args.limits.now c.relax.new.times (length c.args.times.now) c.relax.ensures.latest c.relax.ensures.after
+
+written : (r : Bool) (limits : List Limit) (times : List ℤ) (n : ℕ) → r ≡ have_times limits n
+    → MatchBool r (times ≡ latest limits n) (times ≡ pass limits (latest limits n))
+    → times ≡ cond (have_times limits n) (latest limits n) (pass limits (latest limits n))
+written true limits times n e a = a ∙ ap (λ b. cond b (latest limits n) (pass limits (latest limits n))) e
+written false limits times n e a = a ∙ ap (λ b. cond b (latest limits n) (pass limits (latest limits n))) e
+
+pub returns-clause-written : goal.returns-clause-written
+returns-clause-written c =
+    written c.relax.result c.args.limits.now c.relax.new.times (length c.args.times.now)
+    (told c.relax.result c.args.limits.now c.relax.new.times (length c.args.times.now) c.relax.ensures.latest c.relax.ensures.after)
+    c.relax.ensures.after

@@ -1,4 +1,4 @@
-use Rattle.std.proofs.Common.{vec_items, ap}
+use Rattle.std.proofs.Common.{ap}
 use Rattle.theory.proofs.Retreats.{retreated_map}
 use Rattle.theory.specs.declared.Sizes.{Sizes}
 use Rattle.pair.specs.Held.{codes_of}

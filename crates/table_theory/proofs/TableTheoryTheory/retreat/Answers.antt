@@ -1,4 +1,4 @@
-use Rattle.std.proofs.Common.{vec_items, vec_capacity, sym, ap, subst}
+use Rattle.std.proofs.Common.{vec_items, sym, ap, subst}
 use Rattle.theory.proofs.Retreats.{retreated_map}
 use Rattle.table_theory.proofs.Sound.{Kept, kept_retreated}
 use Rattle.table_theory.proofs.Values.{kept_of, fields_of}

@@ -1,4 +1,4 @@
-use Rattle.std.proofs.Common.{◌≡◌, true, false, length, vec_items, vec_capacity, ◌++◌, ◌∷◌, [], sym, refl, ap, ◌∙◌, subst, arith}
+use Rattle.std.proofs.Common.{◌≡◌, true, false, length, vec_items, ◌++◌, ◌∷◌, [], sym, refl, ap, ◌∙◌, subst, arith}
 use Rattle.std.specs.List.{AllByRecursion}
 use Rattle.theory.proofs.Retreats.{retreated_push}
 use Rattle.theory.specs.Calls.{retreated}
