@@ -6,12 +6,7 @@ use denote.Param.Members.{Mut, Called}
 use Rattle.steps.specs.Clauses.{Clause, dead, due, or_else, AllSet, LowestUnset}
 use Rattle.theory.specs.Meaning.{names}
 
--- whether some element, or every element, passes a test
-pub any_by : {X : Type 0} (test : X → Bool) (any : List X → Bool) → any [] ≡ false → ((x : X) (xs : List X) → any (x ∷ xs) ≡ (test x || any xs))
-    → (xs : List X) → list_any test xs ≡ any xs
-any_by test any none more [] = sym none
-any_by test any none more (x ∷ xs) = let i = any_by test any none more xs in cc (more x xs)
-
+-- whether every element passes a test
 pub all_by : {X : Type 0} (test : X → Bool) (all : List X → Bool) → all [] ≡ true → ((x : X) (xs : List X) → all (x ∷ xs) ≡ (test x && all xs))
     → (xs : List X) → list_all test xs ≡ all xs
 all_by test all none more [] = sym none

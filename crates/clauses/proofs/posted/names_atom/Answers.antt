@@ -2,7 +2,7 @@ use Rattle.std.proofs.Common.{eqb, refl, ◌∙◌, rules}
 use Rattle.std.proofs.lemmas.Iterator.{YieldsList-from_slice}
 use Rattle.std.proofs.lemmas.Iterator.Search.{any_from_yields_List}
 use Rattle.theory.specs.Meaning.{atom_of, names}
-use Rattle.clauses.proofs.Scans.{any_by}
+use Rattle.theory.proofs.Searches.{any_by}
 use Rattle.clauses.proofs.posted.names_atom.Goals as goal
 
 pub returns : goal.returns

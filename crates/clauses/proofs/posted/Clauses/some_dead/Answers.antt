@@ -5,7 +5,7 @@ use Rattle.std.proofs.lemmas.Iterator.Search.{any_from_yields_List}
 use Rattle.steps.specs.Clauses.{dead, some_dead}
 use Rattle.steps.specs.Steps.{codes_of}
 use Rattle.clauses.specs.Placed.{clause_at, clauses_at}
-use Rattle.clauses.proofs.Scans.{any_by}
+use Rattle.theory.proofs.Searches.{any_by}
 use Rattle.clauses.proofs.Places.{within_item}
 use Rattle.clauses.proofs.posted.Clauses.some_dead.Goals as goal
 
