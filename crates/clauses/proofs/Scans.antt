@@ -1,6 +1,6 @@
 -- What searches through a list, a clause or a range find.
-use Rattle.std.proofs.Common.{zero, suc, Bor, IfSome, IsSomeAnd, option_map, ◌≡◌, ℕ, ◌+◌, ◌<◌, ◌≤◌, Bool, true, false, cond, ◌&&◌, ◌||◌, List, [], ◌∷◌, length, get_or, Some, None, Option, MatchOption, sym, arith}
-use Rattle.std.specs.List.{list_any, list_all, HoldsAt}
+use Rattle.std.proofs.Common.{zero, suc, Bor, IfSome, IsSomeAnd, option_map, ◌≡◌, ℕ, ◌+◌, ◌<◌, ◌≤◌, Bool, true, false, cond, ◌&&◌, List, [], ◌∷◌, length, get_or, Some, None, Option, MatchOption, sym, arith}
+use Rattle.std.specs.List.{list_all, HoldsAt}
 use Rattle.std.specs.Iterator.Runs.{Run, ItemsMapTo, AllItemsGive, IsFirstToGive}
 use denote.Param.Members.{Mut, Called}
 use Rattle.steps.specs.Clauses.{Clause, dead, due, or_else, AllSet, LowestUnset}
