@@ -1,6 +1,6 @@
 // The clauses of a question, in the order in which they were posted.
-ghost use Rattle.std.specs.Prelude.{◌≡◌, [], IfOk};
-ghost use Rattle.steps.specs.Calls.{are_atoms_below, atom_twice, post_ground};
+ghost use Rattle.std.specs.Prelude.{◌≡◌, ◌^◌, ◌<◌, [], length, IfOk};
+ghost use Rattle.steps.specs.Calls.{are_atoms_below, atom_twice, literals_in, post_ground};
 ghost use Rattle.steps.specs.Clauses.{some_dead, first_due};
 ghost use Rattle.steps.specs.Steps.{codes_of};
 ghost use Rattle.theory.specs.Calls.{ground_answer};
@@ -100,9 +100,10 @@ impl Clauses {
         Ok(())
     }
 
-    // Whether some clause has every literal false.
+    // Whether some clause has every literal false. There are never more clauses, nor literals in them, than a list can hold.
     pub fn some_dead(&self, assignment: &Assignment) -> bool
-        ensures { result ≡ some_dead (codes_of assignment.now.trail) self.now }
+        ensures is { result ≡ some_dead (codes_of assignment.now.trail) self.now }
+        ensures few { (length self.now < 2 ^ 63) × (literals_in self.now < 2 ^ 63) }
     {
         let literals = self.literals.as_slice();
         self.places.iter().any(|place| assignment.is_dead(&literals[place.start..place.end]))

@@ -1,5 +1,5 @@
 // One stack for every kind of record that a theory keeps of a set literal.
-ghost use Rattle.std.specs.Prelude.{◌≡◌, ℕ, ◌+◌, ◌<◌, ◌≤◌, List, [], ◌∷◌, ◌++◌, map, length, drop, vec_len, vec_capacity};
+ghost use Rattle.std.specs.Prelude.{◌≡◌, ℕ, ◌+◌, ◌^◌, ◌<◌, ◌≤◌, List, [], ◌∷◌, ◌++◌, map, length, drop, vec_len, vec_capacity};
 ghost use Rattle.theory.specs.Calls.{set_ground, ground_answer, retreat_answer, retreated};
 ghost use Rattle.theory.specs.Meaning.{has, names};
 
@@ -55,9 +55,10 @@ impl<R: Record> Stack<R> {
         Stack { records }
     }
 
-    // How many records there are places for.
+    // How many records there are places for. There are never more records.
     pub fn places(&self) -> usize
-        ensures { result ≡ self.now.places }
+        ensures count { result ≡ self.now.places }
+        ensures room { (length self.now.records ≤ self.now.places) × (self.now.places < 2 ^ 63) }
     {
         self.records.capacity()
     }
