@@ -1,5 +1,5 @@
 // The set literals with their marks, and for each literal whether it is set.
-ghost use Rattle.std.specs.Prelude.{◌≡◌, true, [], ◌∷◌, IfOk, IfSome, if◌then◌else◌, Ok, Err, MatchOption};
+ghost use Rattle.std.specs.Prelude.{◌≡◌, ◌<◌, true, [], ◌∷◌, IfOk, IfSome, if◌then◌else◌, Ok, Err, MatchOption};
 ghost use Rattle.steps.specs.Clauses.{opposite, dead, due, AllSet, LowestUnset};
 ghost use Rattle.steps.specs.Steps.{codes_of};
 ghost use Rattle.theory.specs.Meaning.{has, names, different};
@@ -73,12 +73,13 @@ impl Assignment {
         code < self.flags.len() && self.flags[code]
     }
 
-    // Whether one of the set literals is of the atom.
+    // Whether one of the set literals is of the atom, which has to be there: its flags are read with no look at their length.
     fn names(&self, atom: u16) -> bool
+        requires { atom < self.now.atoms }
         ensures { result ≡ names (codes_of self.now.trail) atom }
     {
         let plain = 2 * atom as usize;
-        self.is_set(plain) || self.is_set(plain + 1)
+        self.flags[plain] || self.flags[plain + 1]
     }
 
     // Whether the literal's atom is there and is unset.
@@ -142,7 +143,7 @@ impl Assignment {
             if self.has(opposite(*literal)) {
                 continue;
             }
-            if self.has(*literal) || due.is_some() {
+            if due.is_some() || self.has(*literal) {
                 return None;
             }
             due = Some(*literal);
