@@ -13,26 +13,26 @@ use Rattle.theory.specs.Meaning.{atom_of, has, names, different}
 use Rattle.theory.proofs.Apart.{different_few}
 use Rattle.clauses.specs.Standing.{Kept, flags_of, can_set}
 
-flag_at : (atoms : ℕ) (codes : List ℕ) (c : ℕ) → c < 2 * atoms → get_or (flags_of atoms codes) c false ≡ has codes c
+pub flag_at : (atoms : ℕ) (codes : List ℕ) (c : ℕ) → c < 2 * atoms → get_or (flags_of atoms codes) c false ≡ has codes c
 flag_at atoms codes c h = get_or-map-range_with_len (has codes) 0 (2 * atoms) c c false h (omega arith)
 
-length_flags : (atoms : ℕ) (codes : List ℕ) → length (flags_of atoms codes) ≡ 2 * atoms
+pub length_flags : (atoms : ℕ) (codes : List ℕ) → length (flags_of atoms codes) ≡ 2 * atoms
 length_flags atoms codes = length-map-range_with_len (has codes) 0 (2 * atoms)
 
 -- no set literal is of an atom that is not there
-has_beyond : (atoms : ℕ) (codes : List ℕ) (c : ℕ) → different atoms codes ≡ true → 2 * atoms ≤ c → has codes c ≡ false
+pub has_beyond : (atoms : ℕ) (codes : List ℕ) (c : ℕ) → different atoms codes ≡ true → 2 * atoms ≤ c → has codes c ≡ false
 has_beyond atoms [] c d h = refl
 has_beyond atoms (x ∷ codes) c d h =
     let p = different_tail atoms x codes d in
     let i = has_beyond atoms codes c p.1 h in
     grind (arith, nat_tests, p)
 
-flags_push : (atoms : ℕ) (codes : List ℕ) (c : ℕ) → c < 2 * atoms → set (flags_of atoms codes) c true ≡ flags_of atoms (c ∷ codes)
+pub flags_push : (atoms : ℕ) (codes : List ℕ) (c : ℕ) → c < 2 * atoms → set (flags_of atoms codes) c true ≡ flags_of atoms (c ∷ codes)
 flags_push atoms codes c h =
     fill_by_all (has (c ∷ codes)) (set (flags_of atoms codes) c true) (2 * atoms) false (length-set (flags_of atoms codes) c true ∙ length_flags atoms codes)
     (λ k l. grind (arith, common_steps, nat_tests, flag_at atoms codes k, length_flags atoms codes))
 
-flags_pop : (atoms : ℕ) (codes : List ℕ) (c : ℕ) → c < 2 * atoms → has codes c ≡ false → set (flags_of atoms (c ∷ codes)) c false ≡ flags_of atoms codes
+pub flags_pop : (atoms : ℕ) (codes : List ℕ) (c : ℕ) → c < 2 * atoms → has codes c ≡ false → set (flags_of atoms (c ∷ codes)) c false ≡ flags_of atoms codes
 flags_pop atoms codes c h gone =
     let flags = flags_of atoms (c ∷ codes) in
     fill_by_all (has codes) (set flags c false) (2 * atoms) false (length-set flags c false ∙ length_flags atoms (c ∷ codes))

@@ -31,14 +31,14 @@ true_le x y h = grind (arith, ints)
 opposite_limit : (x y k : ℤ) → int_le (y -ℤ x) (neg_ℤ k -ℤ pos 1) ≡ not (int_le (x -ℤ y) k)
 opposite_limit x y k = grind (arith, ints)
 
-met_holds : (world : List ℤ) (l : Limit) → Met world l → limit_holds l world ≡ true
-met_holds world l m = le_true (at world l.a -ℤ at world l.b) l.weight m
+met_holds : (l : Limit) (world : List ℤ) → Met world l → limit_holds l world ≡ true
+met_holds l world m = le_true (at world l.a -ℤ at world l.b) l.weight m
 
-holds_met : (world : List ℤ) (l : Limit) → limit_holds l world ≡ true → Met world l
-holds_met world l h = true_le (at world l.a -ℤ at world l.b) l.weight h
+pub holds_met : (l : Limit) (world : List ℤ) → limit_holds l world ≡ true → Met world l
+holds_met l world h = true_le (at world l.a -ℤ at world l.b) l.weight h
 
 all_met : (limits : List Limit) (world : List ℤ) → AllRecordsHold limit_holds limits world → AllByRecursion (Met world) limits
-all_met limits world h = All-weaker (λ l. limit_holds l world ≡ true) (Met world) (holds_met world) limits h
+all_met limits world h = All-weaker (λ l. limit_holds l world ≡ true) (Met world) (λ l. holds_met l world) limits h
 
 -- the literals of an atom, by the entry that they are of
 plain_limit : (e : DifferenceEntry) (code : ℕ) → code % 2 ≡ 0 → entry_limit e code ≡ record { code = code; a = e.a; b = e.b; weight = e.limit }
@@ -102,7 +102,7 @@ limit_laws =
       one_of_two = one_of_two;
       whole = length_latest;
       sound = λ limits variables h.
-          All-weaker (Met (latest limits variables)) (λ l. limit_holds l (latest limits variables) ≡ true) (met_holds (latest limits variables)) limits
+          All-weaker (Met (latest limits variables)) (λ l. limit_holds l (latest limits variables) ≡ true) (λ l. met_holds l (latest limits variables)) limits
           (latest_when_still limits variables (still limits variables h)).met;
       complete = λ limits variables fit world whole h.
           not_from_false (moves limits (latest limits variables))
@@ -132,7 +132,7 @@ module _ (variables : ℕ) (table : List DifferenceEntry) (limits : List Limit) 
   -- a world that meets the set limits is one of the set literals
   pub all_hold : (world : List ℤ) → AllByRecursion (Met world) limits → AllHold (difference_meaning variables table) (codes_of limits) world
   all_hold world m =
-      laws.all_hold limit_laws spare_entry variables table limits drawn world (All-weaker (Met world) (λ l. limit_holds l world ≡ true) (met_holds world) limits m)
+      laws.all_hold limit_laws spare_entry variables table limits drawn world (All-weaker (Met world) (λ l. limit_holds l world ≡ true) (λ l. met_holds l world) limits m)
 
   -- the latest times are a world of the set literals
   pub worldly : moves limits (latest limits variables) ≡ false

@@ -37,7 +37,7 @@ module _ {l r : Meaning} {lefts rights codes : List ℕ} {places : ℕ} {cut siz
   abbrev new : List ℕ
   new = drop (length codes - count) codes
 
-  retreated_older : retreated codes count ≡ older
+  pub retreated_older : retreated codes count ≡ older
   retreated_older = let within = w.within in grind (arith, nat_tests)
 
   rest : count ≡ n + length (right_of l.atoms new)

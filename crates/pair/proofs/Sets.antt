@@ -72,7 +72,7 @@ module _ {l r : Meaning} {lefts rights codes : List ℕ} {places : ℕ} {cut siz
         }
 
     module _ (conflict lefts' list' : List ℕ) (why : Refusal) where
-      refused_left : (o : Option ℕ) → MatchOption o (NotLookedAt l lefts code list why lefts' list') (λ count. Clashed l lefts conflict code list count lefts' list')
+      pub refused_left : (o : Option ℕ) → MatchOption o (NotLookedAt l lefts code list why lefts' list') (λ count. Clashed l lefts conflict code list count lefts' list')
           → MatchOption o (NotLookedAt (pair_meaning l r) codes code list why codes list') (λ count. Clashed (pair_meaning l r) codes conflict code list count codes list')
       refused_left None k = record { reason = ground_left ∙ k.reason; stack_same = refl; list_same = k.list_same }
       refused_left (Some count) k =
@@ -120,7 +120,7 @@ module _ {l r : Meaning} {lefts rights codes : List ℕ} {places : ℕ} {cut siz
         }
 
     module _ (conflict rights' written list' : List ℕ) (why : Refusal) where
-      refused_right : (o : Option ℕ) → MatchOption o (NotLookedAt r rights (code - 2 * n) list why rights' written) (λ count. Clashed r rights conflict (code - 2 * n) list count rights' written)
+      pub refused_right : (o : Option ℕ) → MatchOption o (NotLookedAt r rights (code - 2 * n) list why rights' written) (λ count. Clashed r rights conflict (code - 2 * n) list count rights' written)
           → list' ≡ raised_front (2 * n) o written
           → MatchOption o (NotLookedAt (pair_meaning l r) codes code list why codes list') (λ count. Clashed (pair_meaning l r) codes (raised (2 * n) conflict) code list count codes list')
       refused_right None k e = record { reason = ground_right ∙ k.reason; stack_same = refl; list_same = e ∙ k.list_same }

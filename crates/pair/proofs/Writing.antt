@@ -9,7 +9,7 @@ use Rattle.theory.specs.Meaning.{Meaning}
 use Rattle.pair.proofs.Together.{fits_if_any}
 use Rattle.pair.specs.Pairs.{sizes_of, pair_fits, pair_world, shown_if, shown_pair, Together}
 
-long_written : (variables : ℕ) (world list : List ℤ) → variables ≤ length list → world_written variables world list ≡ world ++ drop variables list
+pub long_written : (variables : ℕ) (world list : List ℤ) → variables ≤ length list → world_written variables world list ≡ world ++ drop variables list
 long_written variables world list long = grind (arith, nat_tests)
 
 -- no variables, so nothing is written
@@ -17,7 +17,7 @@ pub nothing_written : (variables : ℕ) (world list : List ℤ) → length world
 nothing_written variables world list whole none = long_written variables world list (omega arith) ∙ rw (nil_from_length world (omega arith), none)
 
 -- the left's to the front, then the right's behind it
-both_written : (a b : ℕ) (left right list list₁ list₂ : List ℤ) → length left ≡ a → a + b ≤ length list
+pub both_written : (a b : ℕ) (left right list list₁ list₂ : List ℤ) → length left ≡ a → a + b ≤ length list
     → list₁ ≡ world_written a left list → list₂ ≡ world_written b right (take (length list₁ - a) (drop a list₁))
     → put_mid a (length list₁ - a) list₁ list₂ ≡ world_written (a + b) (left ++ right) list
 both_written a b left right list list₁ list₂ whole long first second =

@@ -12,7 +12,7 @@ use Rattle.theory.specs.Calls.{set_ground, Picked, none, keep, skip, Clashed, No
 use Rattle.theory.specs.Meaning.{Meaning, AllHold, WorldOf, NoWorld, atom_of, names, HasWorld}
 use Rattle.clauses.specs.Standing.{can_set}
 
-reverse_first : {A : Type 0} (x : A) (xs : List A) → reverse (x ∷ xs) ≡ reverse xs ++ (x ∷ [])
+pub reverse_first : {A : Type 0} (x : A) (xs : List A) → reverse (x ∷ xs) ≡ reverse xs ++ (x ∷ [])
 reverse_first x xs = reverse-append (x ∷ []) xs
 
 all_reverse : {A : Type 0} (P : A → Type 0) (xs : List A) → AllByRecursion P xs → AllByRecursion P (reverse xs)
@@ -34,7 +34,7 @@ all_picked P (skip p) h = all_picked P p h.1
 
 module _ (m : Meaning) (cs : List ℕ) where
   -- why a literal that can be set is looked at
-  looked_at : (code places : ℕ) → can_set m.atoms cs code ≡ true → m.atoms ≤ places → set_ground m.atoms (reverse cs) code places ≡ None
+  pub looked_at : (code places : ℕ) → can_set m.atoms cs code ≡ true → m.atoms ≤ places → set_ground m.atoms (reverse cs) code places ≡ None
   looked_at code places h room = let e = names_reverse cs (atom_of code) in grind (arith, common_steps)
 
   module _ (code : ℕ) (list conflict stack' list' : List ℕ) (can : can_set m.atoms cs code ≡ true) (room : m.atoms ≤ length list) where

@@ -16,6 +16,6 @@ pub struct Question<T: Theory> {
     solver: Solver<T>,
     stage: Stage,
     clauses: Clauses,
-    ghost atoms_there: { AtomsThere (T.meaning solver.theory).atoms clauses } by { AtomsThere-prop (T.meaning solver.theory).atoms clauses },
-    ghost resting: { Resting stage solver.assignment.trail } by { Resting-prop stage solver.assignment.trail },
+    pub ghost atoms_there: { AtomsThere (T.meaning solver.theory).atoms clauses } by { AtomsThere-prop (T.meaning solver.theory).atoms clauses },
+    pub ghost resting: { Resting stage solver.assignment.trail } by { Resting-prop stage solver.assignment.trail },
 }

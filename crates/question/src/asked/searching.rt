@@ -21,9 +21,9 @@ pub struct Solver<T: Theory> {
     pub(super) theory: T,
     pub(super) assignment: Assignment,
     conflict: Vec<u16>,
-    ghost same_atoms: { assignment.atoms ≡ (T.meaning theory).atoms },
-    ghost same_stack: { T.stack theory ≡ reverse (codes_of assignment.trail) },
-    ghost conflict_places: { vec_len conflict ≡ (T.meaning theory).atoms },
+    pub ghost same_atoms: { assignment.atoms ≡ (T.meaning theory).atoms },
+    pub ghost same_stack: { T.stack theory ≡ reverse (codes_of assignment.trail) },
+    pub ghost conflict_places: { vec_len conflict ≡ (T.meaning theory).atoms },
 }
 
 // A verdict and the decisions counted.
