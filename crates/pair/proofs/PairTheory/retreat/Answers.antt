@@ -1,4 +1,4 @@
-use Rattle.std.proofs.Common.{ap}
+use Rattle.std.proofs.Common.{ap, ◌∙◌}
 use Rattle.theory.proofs.Retreats.{retreated_map}
 use Rattle.theory.specs.declared.Sizes.{Sizes}
 use Rattle.pair.specs.Held.{codes_of}
@@ -16,8 +16,8 @@ drops g c =
 
 pub returns-in_err-retreat : goal.returns-in_err-retreat
 returns-in_err-retreat g c =
-    let h = left_went c.args.self.now.together (drops g (goal.at.returns-in_err-retreat g c).After-count_left-lefts) in
-    absurd (cc (h, c.retreat.ensures.answer, c.in_err-retreat.was))
+    let h = c.retreat.ensures.answer ∙ left_went c.args.self.now.together (drops g (goal.at.returns-in_err-retreat g c).After-count_left-lefts) in
+    absurd (cc (h, c.in_err-retreat.was))
 
 pub overflow_sub-count : goal.overflow_sub-count
 overflow_sub-count g c = few_lefts c.args.self.now.together (drops g (goal.at.overflow_sub-count g c).After-count_left-lefts)

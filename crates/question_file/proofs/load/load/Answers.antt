@@ -1,11 +1,11 @@
-use Rattle.std.proofs.Common.{◌≡◌, List, Ok, Err, Result, ap, ◌∙◌, sym, refl, rules}
+use Rattle.std.proofs.Common.{◌≡◌, List, Ok, Err, Result, ap, ◌∙◌, sym, refl, subst, rules}
 use Rattle.std.proofs.lemmas.List.{length-take-le, take_rest}
 use Rattle.std.proofs.lemmas.Result.{err_from_is_err_and}
 use Rattle.refusals.specs.declared.Fault.{Fault}
 use Rattle.refusals.specs.Grounds.{map_ok}
 use Rattle.question_file.specs.declared.check.Counts.{Counts}
 use Rattle.question_file.specs.Contents.{Contents, counts_of, checked}
-use Rattle.question_file.specs.Tables.{room_of, filled_from}
+use Rattle.question_file.specs.Tables.{Long, room_of, filled_from}
 use Rattle.question_file.proofs.Law.{undoing_writing}
 use Rattle.question_file.proofs.Standing.{accepted, bytes_of}
 use Rattle.question_file.proofs.load.load.Goals as goal
@@ -57,7 +57,7 @@ fill-requires c =
     let a = accepted c.type_inv.file c.in_ok-counts.ensures in
     let n = a.difference_places in
     let m = a.equality_places in
-    rw (length-take-le, c.fill-behind.ensures.behind, length-take-le, take_rest) a.equalities_long
+    subst (Long 4 _) (sym c.fill-behind.ensures.behind) (rw (length-take-le, length-take-le, take_rest) a.equalities_long)
 
 pub returns : goal.returns
 returns c =
